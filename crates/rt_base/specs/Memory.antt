@@ -5,7 +5,7 @@ use Rattle.std.specs.Str.{bytes_eq}
 use Rattle.std.specs.declared.alloc.Global.{Global}
 
 -- files, the calls that fail, how many calls there were, and how many failed
-pub record Held : Type 0 where
+pub record FilesInMemory : Type 0 where
   pub files : List (List ℕ × Vec ℕ Global)
   pub failing : List ℕ
   pub calls : ℕ
@@ -25,15 +25,15 @@ abbrev pub is_chosen : List ℕ → ℕ → Bool
 is_chosen failing number = list_any (λ call. call == number) failing
 
 -- the next read fails: its call is chosen, or the name is not there
-abbrev pub read_fails : Held → List ℕ → Bool
+abbrev pub read_fails : FilesInMemory → List ℕ → Bool
 read_fails held name = is_chosen held.failing held.calls || is_none (bytes_of held.files name)
 
 -- after a read, which may have failed
-abbrev pub after_read : Bool → Held → Held
+abbrev pub after_read : Bool → FilesInMemory → FilesInMemory
 after_read fails held = record held { calls = counted held.calls; faults = if fails then counted held.faults else held.faults }
 
 -- the bytes taken, the most that one call takes, the room in all, the calls that fail, how many calls there were, and how many failed
-pub record Room : Type 0 where
+pub record SinkInMemory : Type 0 where
   pub bytes : List ℕ
   pub piece : ℕ
   pub room : ℕ
@@ -42,17 +42,17 @@ pub record Room : Type 0 where
   pub faults : ℕ
 
 -- how much room is left
-abbrev pub room_left : Room → ℕ
+abbrev pub room_left : SinkInMemory → ℕ
 room_left sink = sink.room - length sink.bytes
 
 -- the next write fails: its call is chosen, or there are bytes and no room
-abbrev pub write_fails : Room → List ℕ → Bool
+abbrev pub write_fails : SinkInMemory → List ℕ → Bool
 write_fails sink bytes = is_chosen sink.failing sink.calls || (not (length bytes == 0) && (room_left sink == 0))
 
 -- how many bytes a write takes that does not fail
-abbrev pub taken_of : Room → List ℕ → ℕ
+abbrev pub taken_of : SinkInMemory → List ℕ → ℕ
 taken_of sink bytes = min (min sink.piece (room_left sink)) (length bytes)
 
 -- after a write, which may have failed, with these bytes taken in all
-abbrev pub after_write : Bool → List ℕ → Room → Room
+abbrev pub after_write : Bool → List ℕ → SinkInMemory → SinkInMemory
 after_write fails bytes sink = record sink { bytes = bytes; calls = counted sink.calls; faults = if fails then counted sink.faults else sink.faults }

@@ -5,18 +5,30 @@ ghost use Rattle.rt_base.specs.Outside.{FillsFront};
 use crate::{Failed, Inputs, Sink};
 use std::fs;
 use std::io::{Read, Seek, SeekFrom};
+use std::marker::Model;
 use std::rt::Files;
 
-/// Real files, by their paths. What they hold is not told. One counter is the count of faults of every name.
+/// Real files, by their paths. What they hold is not told. One counter, which is all that contracts see of it, is the
+/// count of faults of every name.
 #[derive(Drop)]
 pub struct FileInputs<R: Files + Clone + Drop> {
     rt: R,
     faults: u64,
 }
 
+impl<R: Files + Clone + Drop> Model for FileInputs<R> {
+    ghost use Rattle.std.specs.Prelude.{ℕ};
+
+    ghost Value = { ℕ };
+
+    ghost view = { λ inputs. inputs.faults };
+}
+
 impl<R: Files + Clone + Drop> FileInputs<R> {
     /// Inputs over the file system, with no fault yet.
-    pub fn new(rt: R) -> FileInputs<R> {
+    pub fn new(rt: R) -> FileInputs<R>
+        ensures { result ≡ 0 }
+    {
         FileInputs { rt, faults: 0 }
     }
 }
@@ -38,7 +50,7 @@ fn read_file<R: Files>(rt: &R, name: &str, at: u64, into: &mut [u8]) -> Option<u
 impl<R: Files + Clone + Drop> Inputs for FileInputs<R> {
     ghost bytes = { λ s name. None };
 
-    ghost faults = { λ s name. s.faults };
+    ghost faults = { λ faults name. faults };
 
     fn read_at(&mut self, name: &str, at: u64, into: &mut [u8]) -> Result<usize, Failed> {
         match read_file(&self.rt, name, at, into) {
@@ -51,16 +63,26 @@ impl<R: Files + Clone + Drop> Inputs for FileInputs<R> {
     }
 }
 
-/// The real standard output. What it holds is not told. A write that takes nothing of a piece that is not empty is a fault.
+/// The real standard output. What it holds is not told, and contracts see its count of faults alone. A write that takes nothing of a piece that is not empty is a fault.
 #[derive(Drop)]
 pub struct StdSink<R: Print + Clone + Drop> {
     rt: R,
     faults: u64,
 }
 
+impl<R: Print + Clone + Drop> Model for StdSink<R> {
+    ghost use Rattle.std.specs.Prelude.{ℕ};
+
+    ghost Value = { ℕ };
+
+    ghost view = { λ sink. sink.faults };
+}
+
 impl<R: Print + Clone + Drop> StdSink<R> {
     /// A sink over the standard output, with no fault yet.
-    pub fn new(rt: R) -> StdSink<R> {
+    pub fn new(rt: R) -> StdSink<R>
+        ensures { result ≡ 0 }
+    {
         StdSink { rt, faults: 0 }
     }
 }
@@ -68,7 +90,7 @@ impl<R: Print + Clone + Drop> StdSink<R> {
 impl<R: Print + Clone + Drop> Sink for StdSink<R> {
     ghost taken = { λ s. None };
 
-    ghost faults = { λ s. s.faults };
+    ghost faults = { λ faults. faults };
 
     fn write(&mut self, bytes: &[u8]) -> Result<usize, Failed> {
         match self.rt.write_some(bytes) {

@@ -5,19 +5,26 @@
 
 mod edges;
 mod gate;
+mod kinds;
 mod limit;
 mod list;
 mod memory;
 mod outside;
+mod steps;
 mod words;
 
 pub use edges::{FileInputs, StdSink};
 pub use gate::{Gate, NoGate, Place};
+pub use kinds::{is_name, is_reserved};
 pub use limit::Limit;
 pub use list::List;
 pub use memory::{MemoryInputs, MemorySink};
 pub use outside::{Failed, Inputs, Sink};
-pub use words::{OutOfMemory, Raw, Word};
+pub use steps::Steps;
+pub use words::{OutOfMemory, Raw, Word, word_of};
 
 /// A whole-number point of time.
 pub type Point = u64;
+
+#[cfg(test)]
+mod tests;

@@ -15,7 +15,7 @@ pub enum Limit {
     Events,
     /// Assignments of variables, over all statements.
     Assignments,
-    /// Instances of rules.
+    /// Instances of rules and of `holdsFor` statements.
     Rules,
     /// Conditions and leaves of these instances.
     Conditions,
@@ -27,6 +27,6 @@ pub enum Limit {
     Seals,
     /// Feed commands times the windows that one event may lie in.
     Occurrences,
-    /// Rows times the points of a window.
+    /// Rows times the value points of a window.
     Points,
 }

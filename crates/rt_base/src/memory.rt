@@ -18,9 +18,9 @@ pub struct MemoryInputs {
 }
 
 impl Model for MemoryInputs {
-    ghost use Rattle.rt_base.specs.Memory.{Held};
+    ghost use Rattle.rt_base.specs.Memory.{FilesInMemory};
 
-    ghost Value = { Held };
+    ghost Value = { FilesInMemory };
 
     ghost view = { λ m. record { files = m.files.items; failing = m.failing.items; calls = m.calls; faults = m.faults } };
 }
@@ -84,7 +84,7 @@ impl Inputs for MemoryInputs {
         ensures err { OnErr result (into.new ≡ into.old) }
         ensures same { (other : List ℕ) → bytes_of self.new.files other ≡ bytes_of self.old.files other }
         ensures later { (other : List ℕ) → self.old.faults ≤ self.new.faults }
-        ensures none { OnOk result (self.new.faults ≡ self.old.faults) }
+        ensures none { OnOk result ((other : List ℕ) → self.new.faults ≡ self.old.faults) }
         ensures cause { HasCause self.old.faults self.new.faults result }
 
         // It fails exactly at the calls chosen and at unknown names, and a call changes the counts alone.
@@ -118,9 +118,9 @@ pub struct MemorySink {
 
 impl Model for MemorySink {
     ghost use Rattle.std.specs.Prelude.{◌≤◌, ◌<◌, take, vec_len};
-    ghost use Rattle.rt_base.specs.Memory.{Room};
+    ghost use Rattle.rt_base.specs.Memory.{SinkInMemory};
 
-    ghost Value = { Room };
+    ghost Value = { SinkInMemory };
 
     ghost view = { λ m. record { bytes = take m.len m.room.items; piece = m.piece; room = vec_len m.room; failing = m.failing.items; calls = m.calls; faults = m.faults } };
 

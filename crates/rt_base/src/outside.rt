@@ -23,7 +23,7 @@ pub trait Inputs {
         ensures err { OnErr result (into.new ≡ into.old) }
         ensures same { (other : List ℕ) → bytes self.new other ≡ bytes self.old other }
         ensures later { (other : List ℕ) → faults self.old other ≤ faults self.new other }
-        ensures none { OnOk result (faults self.new name.now ≡ faults self.old name.now) }
+        ensures none { OnOk result ((other : List ℕ) → faults self.new other ≡ faults self.old other) }
         ensures cause { HasCause (faults self.old name.now) (faults self.new name.now) result };
 }
 

@@ -1,5 +1,7 @@
 // Words and raw bytes, which contracts see as lists of bytes.
-ghost use Rattle.std.specs.Prelude.{◌≡◌, IfOk};
+ghost use Rattle.std.specs.Prelude.{◌≡◌, true, IfOk};
+ghost use Rattle.std.specs.List.{list_all};
+ghost use Rattle.rt_base.specs.Kinds.{is_letter};
 
 use std::alloc::{AllocError, AllocFailed, Global};
 use std::marker::Model;
@@ -49,6 +51,18 @@ impl Word {
         ensures { result.now ≡ self.now }
     {
         self.text.as_str()
+    }
+}
+
+/// A copy of bytes that are letters, digits and underscores.
+#[tactic(auto, using(crate::proofs::Letters::letters_are_text))]
+pub fn word_of(alloc: Global, letters: &[u8]) -> Result<Word, OutOfMemory>
+    requires { list_all is_letter letters.now ≡ true }
+    ensures { IfOk result (λ word. word ≡ letters.now) }
+{
+    match str::from_utf8(letters) {
+        Ok(text) => Word::new(alloc, text),
+        Err(_) => unreachable!(),
     }
 }
 

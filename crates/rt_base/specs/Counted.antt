@@ -1,0 +1,7 @@
+-- What a contract sees of a counter of steps.
+use Rattle.std.specs.Prelude.{ℕ}
+
+-- the steps that are counted, and how many parts are out
+pub record Counted : Type 0 where
+  pub count : ℕ
+  pub out : ℕ
