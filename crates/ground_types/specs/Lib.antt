@@ -1,0 +1,13 @@
+pub mod Windows
+pub mod Truth
+pub mod Members
+pub mod Inertia
+pub mod Recognition
+pub mod Rows
+pub mod History
+pub mod Publication
+pub mod Touched
+pub mod Whole
+pub mod Meaning
+pub mod Sound
+pub mod Examples
