@@ -1,0 +1,4 @@
+pub mod Numbers
+pub mod Covering
+pub mod Having
+pub mod FirstBad

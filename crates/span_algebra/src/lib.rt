@@ -1,0 +1,21 @@
+//! Lists of spans and of points of time, which the rows of fluents and events are made of.
+//! Its promise: every list is in normal form (spans that rise, none empty and no two touching; points that rise), so
+//! that it is fixed by the points that it has, and a look-up answers exactly whether a point is among them.
+//! It stands on `rt_base` alone.
+#![tactic(auto)]
+
+mod laws;
+mod points;
+mod refused;
+mod rows;
+mod spans;
+
+pub use laws::{normal_is_unique, rising_is_unique};
+pub use points::Points;
+pub use refused::ListRefused;
+pub use rows::UnitRows;
+pub use rt_base::Point;
+pub use spans::{Span, Spans};
+
+#[cfg(test)]
+mod tests;

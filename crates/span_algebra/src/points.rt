@@ -1,0 +1,111 @@
+// Rising lists of points.
+ghost use Rattle.std.specs.Prelude.{◌≡◌, ◌↔◌, ◌+◌, ◌<◌, ℕ, [], length, take, IsTrue, OnOk, IfOk, IfSome, IfNone, IsOkUnless};
+ghost use Rattle.span_algebra.specs.Normal.{IsRising, IsFirstBad, has};
+
+use crate::{ListRefused, Point};
+use rt_base::OutOfMemory;
+use std::alloc::Global;
+use std::marker::Model;
+
+/// A rising list of points: each is above the one before it.
+#[derive(Debug, Drop)]
+pub struct Points {
+    alloc: Global,
+    points: Vec<Point>,
+}
+
+impl Model for Points {
+    ghost use Rattle.std.specs.Prelude.{List, ℕ};
+    ghost use Rattle.span_algebra.specs.Normal.{IsRising};
+
+    ghost Value = { List ℕ };
+
+    ghost view = { λ s. s.points.items };
+
+    ghost invariant = { λ s. IsRising s.points.items };
+}
+
+// Whether the list rises up to and with this place, where it rises before it.
+fn rises_with(list: &[Point], place: usize) -> bool
+    requires within { place < length list.now }
+    requires before { IsRising (take place list.now) }
+    ensures { IsTrue result ↔ IsRising (take (place + 1) list.now) }
+{
+    place == 0 || list[place - 1] < list[place]
+}
+
+// The place of the first point that is not above the one before it.
+fn first_bad(list: &[Point]) -> Option<usize>
+    ensures bad { IfSome result (IsFirstBad IsRising list.now) }
+    ensures rising { IfNone result (IsRising list.now) }
+{
+    for place in 0..list.len() {
+        if !rises_with(list, place) {
+            return Some(place);
+        }
+    }
+    None
+}
+
+impl Points {
+    /// No point. It keeps the allocator for copies, and takes no memory.
+    pub fn new(alloc: Global) -> Points
+        ensures { result ≡ [] }
+    {
+        Points {
+            alloc,
+            points: Vec::new(alloc),
+        }
+    }
+
+    /// A copy of a list, if it rises. Another is refused as `NotNormal`, at its first point that is not above the one
+    /// before it. A rising one is refused only as `OutOfMemory`.
+    pub fn from_list(alloc: Global, list: &[Point]) -> Result<Points, ListRefused>
+        ensures ok { IfOk result (λ points. points ≡ list.now) }
+        ensures rising { OnOk result (IsRising list.now) }
+        ensures taken { IsRising list.now → IsOkUnless result ListRefused.OutOfMemory }
+        ensures not_normal { (place : ℕ) → (result ≡ Err (ListRefused.NotNormal place)) ↔ IsFirstBad IsRising list.now place }
+    {
+        if let Some(place) = first_bad(list) {
+            return Err(ListRefused::NotNormal { place });
+        }
+        match Vec::from_slice(alloc, list) {
+            Ok(points) => Ok(Points { alloc, points }),
+            Err(_) => Err(ListRefused::OutOfMemory),
+        }
+    }
+
+    /// The points of a vector, which have to rise. Nothing is copied: it takes no memory.
+    pub fn of(alloc: Global, points: Vec<Point>) -> Points
+        requires { IsRising points.items }
+        ensures { result ≡ points.items }
+    {
+        Points { alloc, points }
+    }
+
+    /// The same points again, or `OutOfMemory`.
+    pub fn copy(&self) -> Result<Points, OutOfMemory>
+        ensures { IfOk result (λ points. points ≡ self.now) }
+    {
+        let points = Vec::from_slice(self.alloc, self.points.as_slice())?;
+        Ok(Points {
+            alloc: self.alloc,
+            points,
+        })
+    }
+
+    /// The points, in rising order. It takes no memory.
+    pub fn as_slice(&self) -> &[Point]
+        ensures list { result.now ≡ self.now }
+        ensures rising { IsRising self.now }
+    {
+        self.points.as_slice()
+    }
+
+    /// Whether the point is among them. The search goes by halves, and takes no memory.
+    pub fn has(&self, at: Point) -> bool
+        ensures { result ≡ has self.now at }
+    {
+        self.points.binary_search(&at).is_ok()
+    }
+}
