@@ -1,0 +1,144 @@
+-- The history of commands: it is legal, and that of a plain script is plain.
+use Rattle.std.proofs.Common.{◌≡◌, ℕ, ◌+◌, ◌<◌, ◌≤◌, nat_lt, Bool, true, cond, ◌&&◌, List, [], ◌∷◌, ◌++◌, length, take, refl, sym, ◌∙◌, ap, ap₂, subst, arith, append_assoc, append-nil, length-append}
+use Rattle.std.specs.List.{list_all}
+use Rattle.std.proofs.lemmas.List.{take-append-le}
+use Rattle.std.proofs.lemmas.List.Folds.{list_all-append}
+use Rattle.std.proofs.lemmas.List.Elements.{All-take}
+use Rattle.std.proofs.lemmas.List.Sums.{sum_by-append, sum_by-cons, fold-append, AllPass-from_list_all, list_all-from_AllPass}
+use Rattle.ground_types.specs.History.{seals, is_seal, reply_to, FollowsLegally, AreLegalAfter, IsLegal}
+use Rattle.ground_types.specs.declared.plan.Plan.{Plan}
+use Rattle.ground_types.specs.declared.entries.Act.TheVariants.{Add, Revoke}
+use Rattle.ground_types.specs.declared.entries.Entry.{Entry}
+use Rattle.ground_types.specs.declared.entries.Entry.TheVariants.{Fed, Seal}
+use Rattle.ground_types.specs.declared.entries.Command.{Command}
+use Rattle.ground_types.specs.declared.entries.Command.TheVariants as command
+use Rattle.rtec_main.proofs.Both.{both_left, both_right}
+use Rattle.rtec_main.specs.Script.{is_plain_add, IsPlainScript}
+use Rattle.rtec_main.specs.Recognised.{is_fed_add, IsPlainHistory}
+use Rattle.rtec_main.specs.Report.{entries_of, history_after, history_of}
+
+-- a legal history goes on legally with an entry that follows it legally
+legal_push : (plan : Plan) (before xs : List Entry) (x : Entry) → AreLegalAfter plan before xs → FollowsLegally plan (before ++ xs) x →
+    AreLegalAfter plan before (xs ++ x ∷ [])
+legal_push plan before [] x legal last = (subst (λ (h : List Entry). FollowsLegally plan h x) (append-nil before) last, tt)
+legal_push plan before (y ∷ ys) x legal last = (
+  legal.0,
+  legal_push plan (before ++ y ∷ []) ys x legal.1
+      (subst (λ (h : List Entry). FollowsLegally plan h x) (sym (append_assoc before (y ∷ []) ys)) last),
+)
+
+-- so it does with the entry of a command
+legal_more : (plan : Plan) (history : List Entry) (c : Command) → AreLegalAfter plan [] history →
+    AreLegalAfter plan [] (history ++ entries_of plan history c)
+legal_more plan history (command.Feed feeder act event at) legal =
+    legal_push plan [] history (Fed feeder act event at (reply_to plan history act event at)) legal refl
+legal_more plan history command.Seal legal = legal_push plan [] history (Seal (seals history)) legal refl
+legal_more plan history (command.Ask query) legal = subst (λ (h : List Entry). AreLegalAfter plan [] h) (sym (append-nil history)) legal
+legal_more plan history (command.Wait count) legal = subst (λ (h : List Entry). AreLegalAfter plan [] h) (sym (append-nil history)) legal
+legal_more plan history (command.After feeder count) legal =
+    subst (λ (h : List Entry). AreLegalAfter plan [] h) (sym (append-nil history)) legal
+
+-- the history of commands has right replies and seal numbers
+pub legal_all : (plan : Plan) (history : List Entry) (commands : List Command) → AreLegalAfter plan [] history →
+    AreLegalAfter plan [] (history_after plan history commands)
+legal_all plan history [] legal = legal
+legal_all plan history (c ∷ rest) legal = legal_all plan (history ++ entries_of plan history c) rest (legal_more plan history c legal)
+
+-- entries that are adds of events of which there are so many
+abbrev AreFed : ℕ → List Entry → Type 0
+AreFed events entries = list_all (is_fed_add events) entries ≡ true
+
+fed_push : (events : ℕ) (xs : List Entry) (x : Entry) → AreFed events xs → is_fed_add events x ≡ true → AreFed events (xs ++ x ∷ [])
+fed_push events xs x fed is =
+    list_all-append (is_fed_add events) xs (x ∷ []) ∙ ap₂ (λ (a b : Bool). a && (b && true)) fed is
+
+-- adds make as many fed entries
+record AddsSo (events count : ℕ) (history : List Entry) : Type 0 where
+  pub fed : AreFed events history
+  pub length : length history ≡ count
+
+adds_so : (plan : Plan) (events : ℕ) (history : List Entry) (adds : List Command) → list_all (is_plain_add events) adds ≡ true →
+    AreFed events history → AddsSo events (length history + length adds) (history_after plan history adds)
+adds_so plan events history [] are fed = record { fed = fed; length = omega arith }
+adds_so plan events history (command.Feed feeder Add event at ∷ rest) are fed =
+    let here : nat_lt event events ≡ true = both_left (nat_lt event events) (list_all (is_plain_add events) rest) are in
+    let entry : Entry = Fed feeder Add event at (reply_to plan history Add event at) in
+    let more : AddsSo events (length (history ++ entry ∷ []) + length rest) (history_after plan (history ++ entry ∷ []) rest) =
+    adds_so plan events (history ++ entry ∷ []) rest (both_right (nat_lt event events) (list_all (is_plain_add events) rest) are)
+    (fed_push events history entry fed here) in
+    record { fed = more.fed; length = omega (arith, more.length, length-append history (entry ∷ [])) }
+adds_so plan events history (command.Feed feeder Revoke event at ∷ rest) are fed = cc
+adds_so plan events history (command.Seal ∷ rest) are fed = cc
+adds_so plan events history (command.Ask query ∷ rest) are fed = cc
+adds_so plan events history (command.Wait count ∷ rest) are fed = cc
+adds_so plan events history (command.After feeder count ∷ rest) are fed = cc
+
+abbrev seal_count : Entry → ℕ
+seal_count e = cond (is_seal e) 1 0
+
+no_seal : (events : ℕ) (x : Entry) → is_fed_add events x ≡ true → seal_count x ≡ 0
+no_seal events (Fed feeder act event at reply) is = refl
+no_seal events (Seal number) is = cc
+
+-- there is no seal among them
+no_seals : (events : ℕ) (xs : List Entry) → AreFed events xs → seals xs ≡ 0
+no_seals events [] fed = refl
+no_seals events (x ∷ xs) fed =
+    omega (
+      arith,
+      sum_by-cons seal_count x xs,
+      no_seal events x (both_left (is_fed_add events x) (list_all (is_fed_add events) xs) fed),
+      no_seals events xs (both_right (is_fed_add events x) (list_all (is_fed_add events) xs) fed),
+    )
+
+fed_adds : (plan : Plan) (events : ℕ) (adds : List Command) → list_all (is_plain_add events) adds ≡ true →
+    AddsSo events (length adds) (history_of plan adds)
+fed_adds plan events adds are =
+    let made : AddsSo events (0 + length adds) (history_of plan adds) = adds_so plan events [] adds are refl in
+    record { fed = made.fed; length = omega (arith, made.length) }
+
+front_all : {X : Type 0} (test : X → Bool) (n : ℕ) (xs : List X) → list_all test xs ≡ true → list_all test (take n xs) ≡ true
+front_all test n xs all =
+    list_all-from_AllPass test (take n xs) (All-take (λ x. test x ≡ true) n xs (AllPass-from_list_all test xs all))
+
+-- before each command of a plain script no query is sealed
+pub unsealed : (plan : Plan) (events : ℕ) (commands : List Command) (i : ℕ) → IsPlainScript events commands → i < length commands →
+    seals (history_of plan (take i commands)) ≡ 0
+unsealed plan events commands i (adds, are, few, is) within =
+    let short : i ≤ length adds = omega (arith, ap (λ (c : List Command). length c) is, length-append adds (command.Seal ∷ [])) in
+    let front : take i commands ≡ take i adds = ap (λ (c : List Command). take i c) is ∙ take-append-le i adds (command.Seal ∷ []) short in
+    ap (λ (c : List Command). seals (history_of plan c)) front
+    ∙ no_seals events (history_of plan (take i adds)) (fed_adds plan events (take i adds) (front_all (is_plain_add events) i adds are)).fed
+
+-- the adds and then the seal of query 0
+plain_is : (plan : Plan) (events : ℕ) (adds : List Command) → list_all (is_plain_add events) adds ≡ true →
+    history_of plan (adds ++ command.Seal ∷ []) ≡ history_of plan adds ++ Seal 0 ∷ []
+plain_is plan events adds are =
+    fold-append (λ (h : List Entry) (c : Command). h ++ entries_of plan h c) [] adds (command.Seal ∷ [])
+    ∙ ap (λ (n : ℕ). history_of plan adds ++ Seal n ∷ []) (no_seals events (history_of plan adds) (fed_adds plan events adds are).fed)
+
+pub plain_all : (plan : Plan) (events : ℕ) (commands : List Command) → IsPlainScript events commands →
+    IsPlainHistory events (history_of plan commands)
+plain_all plan events commands (adds, are, few, is) =
+    let made : AddsSo events (length adds) (history_of plan adds) = fed_adds plan events adds are in
+    record {
+      adds = history_of plan adds;
+      are_adds = made.fed;
+      few = omega (arith, made.length);
+      is = ap (λ (c : List Command). history_of plan c) is ∙ plain_is plan events adds are;
+    }
+
+-- a plain history has one seal
+pub one_seal : (events : ℕ) (history : List Entry) → IsPlainHistory events history → seals history ≡ 1
+one_seal events history plain =
+    ap (λ (h : List Entry). seals h) plain.is
+    ∙ sum_by-append seal_count plain.adds (Seal 0 ∷ [])
+    ∙ ap (λ (n : ℕ). n + 1) (no_seals events plain.adds plain.are_adds)
+
+-- the history of a plain script is legal where there is a query
+pub plain_legal : (plan : Plan) (events : ℕ) (commands : List Command) → IsPlainScript events commands → 1 ≤ plan.queries →
+    IsLegal plan (history_of plan commands)
+plain_legal plan events commands plain some = record {
+  entries = legal_all plan [] commands tt;
+  few_seals = omega (arith, one_seal events (history_of plan commands) (plain_all plan events commands plain));
+}

@@ -1,0 +1,28 @@
+use Rattle.rtec_main.proofs.Running.{done, failed}
+use Rattle.rtec_main.proofs.run.run.Goals as goal
+
+pub returns-in-Ok-write_all-clause-status : goal.returns-in-Ok-write_all-clause-status
+returns-in-Ok-write_all-clause-status g c =
+    done _ _ (g.I.Inputs.bytes c.read_description.new.inputs) c.args.words.now _ c.in-Ok.program c.in-Ok-read_script.commands.items c.deref.result.now c.in-Ok-report.text.items c.deref-2.result.now
+    c.in-Some.ensures
+    (record {
+      describes = c.in-Ok.ensures.ok;
+      scripted = c.in-Ok-read_script.ensures.ok;
+      same = c.in-Ok.ensures.same c.in-Some.named.script.now;
+      lent_is = c.deref.ensures.value;
+      text_is = c.in-Ok-report.ensures;
+    })
+    c.deref-2.ensures.value c.in-Ok-write_all.ensures.ok
+
+pub returns-clause-status : goal.returns-clause-status
+returns-clause-status g c =
+    failed _ _ (g.I.Inputs.bytes c.read_description.new.inputs) c.args.words.now _ c.in-Ok.program c.in-Ok-read_script.commands.items c.deref.result.now c.in-Ok-report.text.items c.deref-2.result.now
+    c.in-Some.ensures
+    (record {
+      describes = c.in-Ok.ensures.ok;
+      scripted = c.in-Ok-read_script.ensures.ok;
+      same = c.in-Ok.ensures.same c.in-Some.named.script.now;
+      lent_is = c.deref.ensures.value;
+      text_is = c.in-Ok-report.ensures;
+    })
+    c.deref-2.ensures.value c.in-Err-write_all.ensures.cause.failed c.in-Err-write_all.ensures.err

@@ -1,0 +1,51 @@
+-- The first run, from its two texts to its report: each equation holds by computation alone.
+use Rattle.std.specs.Fmt.{digits}
+use Rattle.std.specs.Prelude.{◌≡◌, ℕ, List, [], ◌∷◌, codes, Some, None, refl, take, length, ◌-◌}
+use Rattle.ground_types.specs.Examples.{lamp}
+use Rattle.ground_types.specs.declared.entries.Act.TheVariants.{Add}
+use Rattle.ground_types.specs.declared.entries.Command.{Command}
+use Rattle.ground_types.specs.declared.entries.Command.TheVariants.{Feed, Seal}
+use Rattle.rtec_main.specs.Plain.{described}
+use Rattle.rtec_main.specs.Script.{script_of}
+use Rattle.rtec_main.specs.Report.{text_of_lines, report_text}
+
+abbrev lamp_text : List ℕ
+lamp_text =
+    text_of_lines
+    (codes "window(10)." ∷ codes "step(5)." ∷ codes "from(0)." ∷ codes "input up." ∷ codes "input down." ∷ codes "simple on [true]."
+    ∷ codes "initiatedAt(on=true) :- happensAt(up)." ∷ codes "terminatedAt(on=true) :- happensAt(down)." ∷ [])
+
+lamp_described : described lamp_text ≡ Some lamp
+lamp_described = refl
+
+-- without its last line feed
+lamp_cut : described (take (length lamp_text - 1) lamp_text) ≡ None
+lamp_cut = refl
+
+abbrev first_commands : List Command
+first_commands = Feed 1 Add 0 3 ∷ Feed 1 Add 1 7 ∷ Feed 1 Add 0 9 ∷ Seal ∷ []
+
+first_script :
+    script_of lamp (text_of_lines (codes "add,1,3,up" ∷ codes "add,1,7,down" ∷ codes "add,1,9,up" ∷ codes "seal" ∷ [])) ≡ Some first_commands
+first_script = refl
+
+first_report : report_text lamp first_commands 0
+    ≡ text_of_lines
+    (codes "1 add up 3 admitted" ∷ codes "1 add down 7 admitted" ∷ codes "1 add up 9 admitted"
+    ∷ codes "query 0 window (0,10] evaluations 3" ∷ codes "  on=true (3,7] (9,open)" ∷ codes "ignored 0"
+    ∷ codes "entries 3 admitted 3 delayed 0 already 0 revoked 0 delayed-revoked 0 unknown 0 forgotten 0"
+    ∷ codes "queries 1 spans 2 points 0 evaluations 3" ∷ [])
+unfolding digits
+first_report = refl
+
+empty_report : report_text lamp (Seal ∷ []) 0
+    ≡ text_of_lines
+    (codes "query 0 window (0,10] evaluations 0" ∷ codes "ignored 0"
+    ∷ codes "entries 0 admitted 0 delayed 0 already 0 revoked 0 delayed-revoked 0 unknown 0 forgotten 0"
+    ∷ codes "queries 1 spans 0 points 0 evaluations 0" ∷ [])
+unfolding digits
+empty_report = refl
+
+-- a script has its seal
+no_seal : script_of lamp [] ≡ None
+no_seal = refl

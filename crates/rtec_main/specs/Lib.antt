@@ -1,0 +1,9 @@
+pub mod Texts
+pub mod Plain
+pub mod Script
+pub mod Report
+pub mod Printed
+pub mod Recognised
+pub mod Run
+pub mod Reads
+pub mod Examples

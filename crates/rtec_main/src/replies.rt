@@ -1,0 +1,137 @@
+// The replies to the commands of a script.
+ghost use Rattle.std.specs.Prelude.{◌≡◌, ◌<◌, ◌≤◌, ◌∷◌, [], reverse, find, MatchOption, IfOk};
+ghost use Rattle.std.specs.Option.{option_copied};
+ghost use Rattle.ground_types.specs.Windows.{IsSoundPlan};
+ghost use Rattle.ground_types.specs.History.{counts_for, is_add, stands, seals, is_seal, reply_to, IsLegal};
+ghost use Rattle.rtec_main.specs.Plain.{IsPlain};
+ghost use Rattle.rtec_main.specs.Script.{IsPlainScript};
+ghost use Rattle.rtec_main.specs.Recognised.{IsPlainHistory};
+ghost use Rattle.rtec_main.specs.Report.{entries_of, history_of};
+
+use ground_types::{Act, Command, Entry, EventId, Plan, Point, Program, Reply};
+use rt_base::OutOfMemory;
+use std::alloc::Global;
+
+// Whether an entry names this event and point, and was not answered Forgotten.
+fn does_count(entry: &Entry, event: EventId, at: Point) -> bool
+    ensures { result ≡ counts_for event at entry.now }
+{
+    match entry {
+        Entry::Fed {
+            event: named,
+            at: point,
+            reply,
+            ..
+        } => *named == event && *point == at && *reply != Reply::Forgotten,
+        Entry::Seal { .. } => false,
+    }
+}
+
+// The last entry that counts for an event at a point.
+fn last_entry(history: &[Entry], event: EventId, at: Point) -> Option<&Entry>
+    ensures { option_copied result ≡ find (counts_for event at) (reverse history.now) }
+{
+    history
+        .iter()
+        .rev()
+        .find(|entry| does_count(entry, event, at))
+}
+
+// Whether the entry, if there is one, is an add.
+fn is_add(entry: Option<&Entry>) -> bool
+    ensures { result ≡ is_add (option_copied entry.entry) }
+{
+    match entry {
+        Some(Entry::Fed { act: Act::Add, .. }) => true,
+        _ => false,
+    }
+}
+
+// Whether the event stands at the point.
+fn does_stand(history: &[Entry], event: EventId, at: Point) -> bool
+    ensures { result ≡ stands history.now event at }
+{
+    is_add(last_entry(history, event, at))
+}
+
+/// How many seals a history has.
+pub fn count_seals(history: &[Entry]) -> usize
+    ensures { result ≡ seals history.now }
+{
+    history
+        .iter()
+        .filter(|entry| matches!(entry, Entry::Seal { .. }))
+        .count()
+}
+
+// The reply to an add or a revoke after a history of at most as many seals as queries.
+fn reply_after(plan: &Plan, history: &[Entry], act: Act, event: EventId, at: Point) -> Reply
+    requires sound { IsSoundPlan plan.now }
+    requires few { seals history.now ≤ plan.now.queries }
+    ensures { result ≡ reply_to plan.now history.now act event at }
+{
+    let count = count_seals(history) as u32;
+    if at <= plan.left(count) {
+        return Reply::Forgotten;
+    }
+    let is_delayed = count > 0 && at <= plan.right(count - 1);
+    match (act, does_stand(history, event, at), is_delayed) {
+        (Act::Add, true, _) => Reply::Already,
+        (Act::Add, false, true) => Reply::Delayed,
+        (Act::Add, false, false) => Reply::Admitted,
+        (Act::Revoke, false, _) => Reply::Unknown,
+        (Act::Revoke, true, true) => Reply::DelayedRevoked,
+        (Act::Revoke, true, false) => Reply::Revoked,
+    }
+}
+
+// The entry of a command after a history, where it makes one.
+fn entry_after(plan: &Plan, history: &[Entry], command: Command) -> Option<Entry>
+    requires sound { IsSoundPlan plan.now }
+    requires few { seals history.now ≤ plan.now.queries }
+    ensures { let made = entries_of plan.now history.now command in MatchOption result (made ≡ []) (λ entry. made ≡ entry ∷ []) }
+{
+    match command {
+        Command::Feed {
+            feeder,
+            act,
+            event,
+            at,
+        } => {
+            let reply = reply_after(plan, history, act, event, at);
+            Some(Entry::Fed {
+                feeder,
+                act,
+                event,
+                at,
+                reply,
+            })
+        }
+        Command::Seal => {
+            let number = count_seals(history) as u32;
+            Some(Entry::Seal { number })
+        }
+        Command::Ask(_) | Command::Wait { .. } | Command::After { .. } => None,
+    }
+}
+
+/// The history of the commands of a plain script: each add with its reply, and the seal.
+pub fn history(
+    alloc: Global,
+    program: &Program,
+    commands: &[Command],
+) -> Result<Vec<Entry>, OutOfMemory>
+    requires program { IsPlain program.now }
+    requires commands { IsPlainScript program.now.events commands.now }
+    ensures exact { IfOk result (λ history. history.items ≡ history_of program.now.plan commands.now) }
+    ensures legal { IfOk result (λ history. IsLegal program.now.plan history.items) }
+    ensures plain { IfOk result (λ history. IsPlainHistory program.now.events history.items) }
+{
+    let mut history = Vec::with_capacity(alloc, commands.len())?;
+    for command in commands {
+        if let Some(entry) = entry_after(&program.plan, &history, *command) {
+            history.push(entry)?;
+        }
+    }
+    Ok(history)
+}

@@ -1,0 +1,208 @@
+// How a run ends, and what is printed of it on the standard error.
+use rt_base::Limit;
+use std::fmt;
+use thiserror::Error;
+
+/// Why a description is refused, with the line of the fault, counted from 1.
+#[derive(Clone, Copy, Debug, Error, PartialEq, Eq)]
+pub enum DescFault {
+    #[error("description line {line}: bad byte")]
+    BadByte { line: u32 },
+    #[error("description line {line}: bad statement")]
+    BadStatement { line: u32 },
+    #[error("description line {line}: too many")]
+    TooMany { line: u32 },
+    #[error("description line {line}: undeclared")]
+    Undeclared { line: u32 },
+    #[error("description line {line}: twice")]
+    Twice { line: u32 },
+    #[error("description line {line}: no trigger")]
+    NoTrigger { line: u32 },
+    #[error("description line {line}: wrong kind")]
+    WrongKind { line: u32 },
+    #[error("description line {line}: arity")]
+    Arity { line: u32 },
+    #[error("description line {line}: clash")]
+    Clash { line: u32 },
+    #[error("description line {line}: loose")]
+    Loose { line: u32 },
+    #[error("description line {line}: cyclic")]
+    Cyclic { line: u32 },
+    #[error("description: bad plan")]
+    BadPlan,
+}
+
+/// Why a script or a report is refused.
+#[derive(Clone, Copy, Debug, Error, PartialEq, Eq)]
+pub enum ScriptFault {
+    #[error("bad record")]
+    BadRecord,
+    #[error("stuck")]
+    Stuck,
+}
+
+/// How a run ends. Inputs are numbered in the order of the words, the description from 0.
+#[derive(Clone, Copy, Debug, PartialEq, Eq)]
+pub enum Status {
+    /// The text was written whole, and every input was read to its end.
+    Done,
+    /// The words are not of a form of a command.
+    BadWords,
+    /// The description is not accepted.
+    BadDescription(DescFault),
+    /// A record of a script has no form, or the scripts wait for each other.
+    BadScript {
+        input: u8,
+        place: u32,
+        fault: ScriptFault,
+    },
+    /// A quantity exceeds its limit.
+    TooLarge {
+        limit: Limit,
+    },
+    /// The count of faults of this input rose.
+    ReadFault {
+        input: u8,
+    },
+    /// The count of faults of the sink rose.
+    WriteFault,
+    /// Memory ran out.
+    OutOfMemory,
+    /// A report is not the expected one.
+    Differs {
+        number: u32,
+        line: u32,
+    },
+    /// The input is not of the form that is built, or is too long for it.
+    NotBuilt {
+        input: u8,
+    },
+}
+
+impl Status {
+    /// The status with which the program ends.
+    pub fn number(&self) -> u8 {
+        match self {
+            Status::Done => 0,
+            Status::BadWords => 2,
+            Status::BadDescription(_) => 3,
+            Status::BadScript { .. } => 4,
+            Status::TooLarge { .. } => 5,
+            Status::ReadFault { .. } => 6,
+            Status::WriteFault => 7,
+            Status::OutOfMemory => 8,
+            Status::Differs { .. } => 9,
+            Status::NotBuilt { .. } => 10,
+        }
+    }
+}
+
+fn word_of(limit: Limit) -> &'static str {
+    match limit {
+        Limit::Description => "description",
+        Limit::Script => "script",
+        Limit::Inputs => "inputs",
+        Limit::Units => "units",
+        Limit::Events => "events",
+        Limit::Assignments => "assignments",
+        Limit::Rules => "rules",
+        Limit::Conditions => "conditions",
+        Limit::Cells => "cells",
+        Limit::Commands => "commands",
+        Limit::Seals => "seals",
+        Limit::Occurrences => "occurrences",
+        Limit::Points => "points",
+    }
+}
+
+/// The fault line, without the program's name. Done has none.
+impl fmt::Display for Status {
+    fn fmt<W: fmt::Write>(&self, f: &mut fmt::Formatter<W>) -> fmt::Result {
+        match self {
+            Status::Done => Ok(()),
+            Status::BadWords => write!(f, "words are not of a known command"),
+            Status::BadDescription(fault) => write!(f, "{fault}"),
+            Status::BadScript {
+                input,
+                place,
+                fault,
+            } => write!(f, "input {input} record {place}: {fault}"),
+            Status::TooLarge { limit } => {
+                let word = word_of(*limit);
+                write!(f, "too large: {word}")
+            }
+            Status::ReadFault { input } => write!(f, "input {input} could not be read"),
+            Status::WriteFault => write!(f, "output could not be written"),
+            Status::OutOfMemory => write!(f, "out of memory"),
+            Status::Differs { line, .. } => write!(f, "report differs at line {line}"),
+            Status::NotBuilt { input } => write!(f, "input {input} is not built"),
+        }
+    }
+}
+
+#[cfg(test)]
+mod tests {
+    use super::*;
+    use std::test::Fail;
+
+    #[test]
+    fn fault_lines_are_those_of_the_formats(rt: HostRuntime) -> Result<(), Fail> {
+        let record = ScriptFault::BadRecord;
+        for (status, number, line) in [
+            (Status::Done, 0, ""),
+            (Status::BadWords, 2, "words are not of a known command"),
+            (
+                Status::BadDescription(DescFault::Cyclic { line: 4 }),
+                3,
+                "description line 4: cyclic",
+            ),
+            (
+                Status::BadDescription(DescFault::BadPlan),
+                3,
+                "description: bad plan",
+            ),
+            (
+                Status::BadScript {
+                    input: 1,
+                    place: 2,
+                    fault: record,
+                },
+                4,
+                "input 1 record 2: bad record",
+            ),
+            (
+                Status::BadScript {
+                    input: 1,
+                    place: 1,
+                    fault: ScriptFault::Stuck,
+                },
+                4,
+                "input 1 record 1: stuck",
+            ),
+            (
+                Status::TooLarge {
+                    limit: Limit::Units,
+                },
+                5,
+                "too large: units",
+            ),
+            (
+                Status::ReadFault { input: 1 },
+                6,
+                "input 1 could not be read",
+            ),
+            (Status::WriteFault, 7, "output could not be written"),
+            (Status::OutOfMemory, 8, "out of memory"),
+            (
+                Status::Differs { number: 0, line: 5 },
+                9,
+                "report differs at line 5",
+            ),
+            (Status::NotBuilt { input: 0 }, 10, "input 0 is not built"),
+        ] {
+            assert_eq!(rt; status.number(), number, "{line}");
+            assert_eq!(rt; status.to_string(rt.alloc())?.as_str(), line);
+        }
+        Ok(())
+    }
+}
