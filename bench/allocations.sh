@@ -43,3 +43,5 @@ for number in $(seq 1 10000); do
     exit 1
   fi
 done
+echo "more than 10000 allocations"
+exit 1
