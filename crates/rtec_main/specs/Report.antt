@@ -30,8 +30,8 @@ entries_of plan before (command.After feeder count) = []
 abbrev pub history_after : Plan → List Entry → List Command → List Entry
 history_after plan before commands = fold (λ history command. history ++ entries_of plan history command) before commands
 
--- the history whose feeds and seals are those of the commands, each with its reply or number; no other is legal, and it is where
--- there are at most as many seals as queries
+-- the history whose feeds and seals are those of the commands, each with its reply or number; it is legal where there are at most
+-- as many seals as queries
 abbrev pub history_of : Plan → List Command → List Entry
 history_of plan commands = history_after plan [] commands
 

@@ -72,8 +72,8 @@ pub record WritesPart (old new : World) (files : Files) : Type 0 where
   pub is_report : IsReport old files text
   pub taken : new.taken ≡ with_bytes (take count text) old.taken
 
--- What a status says, where the words name two files; input 0 is the description and 1 the script. Each case repeats that the
--- tests before it passed.
+-- What a status says, where the words name two files; input 0 is the description and 1 the script. Each case but want of
+-- memory repeats that the tests before it passed.
 abbrev pub Means : World → World → Files → Status → Type 0
 Means old new files status.Done = WritesReport old new files
 Means old new files status.BadWords = ⊥

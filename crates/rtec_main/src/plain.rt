@@ -17,8 +17,11 @@ pub const LONGEST: usize = 65536;
 /// A rule that an input event initiates or terminates a fluent, by their places among the inputs and the fluents.
 #[derive(Clone, Copy, Debug, PartialEq, Eq)]
 pub struct PlainRule {
+    /// Whether it initiates; else it terminates.
     pub initiates: bool,
+    /// The place of its fluent, from 0.
     pub fluent: u32,
+    /// The place of its input event, from 0.
     pub event: u32,
 }
 

@@ -13,6 +13,7 @@ pub enum Unread {
     Fault,
     /// It is longer than its limit.
     TooLong,
+    /// Memory ran out.
     OutOfMemory,
 }
 

@@ -16,10 +16,12 @@ use simple_fluent::spans_of;
 use span_algebra::{Points, UnitRows};
 use std::alloc::Global;
 
-/// The rows of all units, in their order, and how many bodies had to be looked at.
+/// What is recognised: the rows of all units, in their order, and the count of evaluations.
 #[derive(Debug, Drop)]
 pub struct Recognised {
+    /// The rows of each unit.
     pub rows: List<UnitRows>,
+    /// How many bodies had to be looked at.
     pub evaluations: u128,
 }
 

@@ -24,6 +24,7 @@ pub enum Refusal {
     Fault,
     /// It is not of the plain form, or is too long for it.
     NotPlain,
+    /// Memory ran out.
     OutOfMemory,
 }
 
@@ -99,7 +100,7 @@ fn read_script<I: Inputs>(
 /// BadWords comes exactly where the words are not `recognise` and two file names. Otherwise `status` says what each
 /// status means, as far as inputs and sink tell their bytes: Done, that the sink has its old bytes and the report;
 /// NotBuilt, that this input is not plain; ReadFault and WriteFault, that the count of faults rose in this call. Input
-/// 1 is refused only where input 0 is plain. All but Done and WriteFault write nothing. Want of memory alone has no
+/// 1 is refused only where input 0, if it tells its bytes, is plain. All but Done and WriteFault write nothing. Want of memory alone has no
 /// cause. `complete` says it the other way round: what the status is where nothing failed.
 pub fn run<R: Threads + Sync, I: Inputs, K: Sink, G: Gate>(
     _rt: &R,

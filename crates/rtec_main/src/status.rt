@@ -6,28 +6,40 @@ use thiserror::Error;
 /// Why a description is refused, with the line of the fault, counted from 1.
 #[derive(Clone, Copy, Debug, Error, PartialEq, Eq)]
 pub enum DescFault {
+    /// A byte outside comments is not permitted.
     #[error("description line {line}: bad byte")]
     BadByte { line: u32 },
+    /// A statement has no form.
     #[error("description line {line}: bad statement")]
     BadStatement { line: u32 },
+    /// A declaration or a rule has more of something than it may.
     #[error("description line {line}: too many")]
     TooMany { line: u32 },
+    /// A name, a value or an entity is not declared.
     #[error("description line {line}: undeclared")]
     Undeclared { line: u32 },
+    /// A word is declared twice.
     #[error("description line {line}: twice")]
     Twice { line: u32 },
+    /// A rule does not begin with a positive `happensAt`.
     #[error("description line {line}: no trigger")]
     NoTrigger { line: u32 },
+    /// A name is of another kind than its place wants.
     #[error("description line {line}: wrong kind")]
     WrongKind { line: u32 },
+    /// An atom has another number of arguments than its declaration.
     #[error("description line {line}: arity")]
     Arity { line: u32 },
+    /// A variable stands at places of two domains.
     #[error("description line {line}: clash")]
     Clash { line: u32 },
+    /// A variable is bound nowhere.
     #[error("description line {line}: loose")]
     Loose { line: u32 },
+    /// A name depends on itself.
     #[error("description line {line}: cyclic")]
     Cyclic { line: u32 },
+    /// The windows are not given, or not as they may be.
     #[error("description: bad plan")]
     BadPlan,
 }
@@ -35,8 +47,10 @@ pub enum DescFault {
 /// Why a script or a report is refused.
 #[derive(Clone, Copy, Debug, Error, PartialEq, Eq)]
 pub enum ScriptFault {
+    /// A record has no form.
     #[error("bad record")]
     BadRecord,
+    /// No order of the scripts keeps every wait.
     #[error("stuck")]
     Stuck,
 }
@@ -46,7 +60,7 @@ pub enum ScriptFault {
 pub enum Status {
     /// The text was written whole, and every input was read to its end.
     Done,
-    /// The words are not of a form of a command.
+    /// The words are not those of a known command.
     BadWords,
     /// The description is not accepted.
     BadDescription(DescFault),

@@ -7,7 +7,9 @@ use rt_base::Word;
 /// The files that the words of a command name.
 #[derive(Clone, Copy)]
 pub struct Named<'a> {
+    /// The event description.
     pub description: &'a str,
+    /// The script.
     pub script: &'a str,
 }
 
