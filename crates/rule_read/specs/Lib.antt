@@ -1,0 +1,14 @@
+pub mod Bytes
+pub mod Tokens
+pub mod Sentences
+pub mod Words
+pub mod Forms
+pub mod Sound
+pub mod Grammar
+pub mod Canonical
+pub mod Printed
+pub mod Lexed
+pub mod Reading
+pub mod Whole
+pub mod Stated
+pub mod Examples

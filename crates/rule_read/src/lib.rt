@@ -1,0 +1,31 @@
+//! Event descriptions as text: the whole language is read, and printed in one canonical form.
+//! Its promise: `read` gives exactly the statements that the text spells, each with its line, and refuses exactly where
+//! the text is too long, a byte is not permitted or a statement has no form (want of memory aside); `print` gives the
+//! one canonical text, which reads as the same forms. A text has one reading. It stands on `rt_base` alone.
+#![tactic(auto)]
+
+mod copy;
+mod form;
+mod keyword;
+mod laws;
+mod lexer;
+mod line;
+mod printer;
+mod printing;
+mod reader;
+mod statement;
+mod stop;
+mod syntax;
+mod text;
+mod token;
+mod tree;
+mod tree_printer;
+
+pub use form::{Atom, Body, Decl, EventText, Form, Fv, Term, Tree};
+pub use laws::{meaning_is_read, one_form, one_reading, reading_means};
+pub use printing::print;
+pub use syntax::{ReadRefused, Statement, Syntax};
+pub use text::read;
+
+#[cfg(test)]
+mod tests;

@@ -1,0 +1,206 @@
+// The tokens of the parts of statements, put one behind the other.
+ghost use Rattle.std.specs.Prelude.{◌≡◌, ◌++◌, ◌∷◌, [], OnOk, map};
+ghost use Rattle.rule_read.specs.Tokens.{Word as Letters, Sign};
+ghost use Rattle.rule_read.specs.Lexed.{tokens};
+ghost use Rattle.rule_read.specs.Forms.{commas, arguments, in_brackets, in_parentheses, word_tokens, term_tokens, decl_tokens, atom_tokens, fv_tokens, event_tokens, unless, body_tokens, keyword};
+ghost use Rattle.rule_read.specs.Printed.{comma_at};
+
+use crate::form::{Atom, Body, Decl, EventText, Fv, Term};
+use crate::keyword::{Keyword, text_of};
+use crate::token::{Mark, Token};
+use rt_base::{List, OutOfMemory, Word};
+
+#[tactic(auto, using(crate::proofs::Put::put_one))]
+pub(crate) fn put_mark<'a>(out: &mut Vec<Token<'a>>, mark: Mark) -> Result<(), OutOfMemory>
+    ensures { OnOk result (tokens out.new.items ≡ tokens out.old.items ++ Sign mark ∷ []) }
+{
+    out.push(Token::Mark(mark))?;
+    Ok(())
+}
+
+#[tactic(auto, using(crate::proofs::Put::put_one))]
+pub(crate) fn put_word<'a>(out: &mut Vec<Token<'a>>, word: &'a Word) -> Result<(), OutOfMemory>
+    ensures { OnOk result (tokens out.new.items ≡ tokens out.old.items ++ Letters word.now ∷ []) }
+{
+    out.push(Token::Word(word.as_str().as_bytes()))?;
+    Ok(())
+}
+
+#[tactic(auto, using(crate::proofs::Put::put_one))]
+pub(crate) fn put_key<'a>(out: &mut Vec<Token<'a>>, key: Keyword) -> Result<(), OutOfMemory>
+    ensures { OnOk result (tokens out.new.items ≡ tokens out.old.items ++ keyword key ∷ []) }
+{
+    out.push(Token::Word(text_of(key)))?;
+    Ok(())
+}
+
+/// A comma where a member stands before.
+pub(crate) fn put_comma<'a>(out: &mut Vec<Token<'a>>, turn: usize) -> Result<(), OutOfMemory>
+    ensures { OnOk result (tokens out.new.items ≡ tokens out.old.items ++ comma_at turn) }
+{
+    if turn == 0 {
+        return Ok(());
+    }
+    put_mark(out, Mark::Comma)
+}
+
+/// Words with commas between them.
+fn put_words<'a>(out: &mut Vec<Token<'a>>, words: &'a [Word]) -> Result<(), OutOfMemory>
+    ensures { OnOk result (tokens out.new.items ≡ tokens out.old.items ++ commas (map word_tokens words.now)) }
+{
+    for (turn, word) in words.iter().enumerate() {
+        put_comma(out, turn)?;
+        put_word(out, word)?;
+    }
+    Ok(())
+}
+
+/// Words in brackets.
+pub(crate) fn put_row<'a>(
+    out: &mut Vec<Token<'a>>,
+    words: &'a List<Word>,
+) -> Result<(), OutOfMemory>
+    ensures { OnOk result (tokens out.new.items ≡ tokens out.old.items ++ in_brackets (map word_tokens words.now)) }
+{
+    put_mark(out, Mark::OpenList)?;
+    put_words(out, words.as_slice())?;
+    put_mark(out, Mark::CloseList)
+}
+
+/// Words in parentheses, which are left out where there are none.
+fn put_domains<'a>(out: &mut Vec<Token<'a>>, words: &'a [Word]) -> Result<(), OutOfMemory>
+    ensures { OnOk result (tokens out.new.items ≡ tokens out.old.items ++ arguments (map word_tokens words.now)) }
+{
+    if words.is_empty() {
+        return Ok(());
+    }
+    put_mark(out, Mark::Open)?;
+    put_words(out, words)?;
+    put_mark(out, Mark::Close)
+}
+
+pub(crate) fn put_decl<'a>(out: &mut Vec<Token<'a>>, decl: &'a Decl) -> Result<(), OutOfMemory>
+    ensures { OnOk result (tokens out.new.items ≡ tokens out.old.items ++ decl_tokens decl.now) }
+{
+    put_word(out, &decl.name)?;
+    put_domains(out, decl.args.as_slice())
+}
+
+fn put_term<'a>(out: &mut Vec<Token<'a>>, term: &'a Term) -> Result<(), OutOfMemory>
+    ensures { OnOk result (tokens out.new.items ≡ tokens out.old.items ++ term_tokens term.now) }
+{
+    match term {
+        Term::Entity(word) => put_word(out, word),
+        Term::Variable(word) => put_word(out, word),
+    }
+}
+
+/// Terms with commas between them.
+fn put_terms<'a>(out: &mut Vec<Token<'a>>, terms: &'a [Term]) -> Result<(), OutOfMemory>
+    ensures { OnOk result (tokens out.new.items ≡ tokens out.old.items ++ commas (map term_tokens terms.now)) }
+{
+    for (turn, term) in terms.iter().enumerate() {
+        put_comma(out, turn)?;
+        put_term(out, term)?;
+    }
+    Ok(())
+}
+
+/// Terms in parentheses, which are left out where there are none.
+fn put_arguments<'a>(out: &mut Vec<Token<'a>>, terms: &'a [Term]) -> Result<(), OutOfMemory>
+    ensures { OnOk result (tokens out.new.items ≡ tokens out.old.items ++ arguments (map term_tokens terms.now)) }
+{
+    if terms.is_empty() {
+        return Ok(());
+    }
+    put_mark(out, Mark::Open)?;
+    put_terms(out, terms)?;
+    put_mark(out, Mark::Close)
+}
+
+pub(crate) fn put_atom<'a>(out: &mut Vec<Token<'a>>, atom: &'a Atom) -> Result<(), OutOfMemory>
+    ensures { OnOk result (tokens out.new.items ≡ tokens out.old.items ++ atom_tokens atom.now) }
+{
+    put_word(out, &atom.name)?;
+    put_arguments(out, atom.args.as_slice())
+}
+
+pub(crate) fn put_fv<'a>(out: &mut Vec<Token<'a>>, fv: &'a Fv) -> Result<(), OutOfMemory>
+    ensures { OnOk result (tokens out.new.items ≡ tokens out.old.items ++ fv_tokens fv.now) }
+{
+    put_atom(out, &fv.atom)?;
+    put_mark(out, Mark::Equals)?;
+    put_word(out, &fv.value)
+}
+
+/// A fluent-value in parentheses.
+pub(crate) fn put_held<'a>(out: &mut Vec<Token<'a>>, fv: &'a Fv) -> Result<(), OutOfMemory>
+    ensures { OnOk result (tokens out.new.items ≡ tokens out.old.items ++ in_parentheses (fv_tokens fv.now)) }
+{
+    put_mark(out, Mark::Open)?;
+    put_fv(out, fv)?;
+    put_mark(out, Mark::Close)
+}
+
+fn put_event<'a>(out: &mut Vec<Token<'a>>, event: &'a EventText) -> Result<(), OutOfMemory>
+    ensures { OnOk result (tokens out.new.items ≡ tokens out.old.items ++ event_tokens event.now) }
+{
+    match event {
+        EventText::Plain(atom) => put_atom(out, atom),
+        EventText::Start(fv) => {
+            put_key(out, Keyword::Start)?;
+            put_held(out, fv)
+        }
+        EventText::End(fv) => {
+            put_key(out, Keyword::End)?;
+            put_held(out, fv)
+        }
+    }
+}
+
+fn put_unless<'a>(out: &mut Vec<Token<'a>>, positive: bool) -> Result<(), OutOfMemory>
+    ensures { OnOk result (tokens out.new.items ≡ tokens out.old.items ++ unless positive) }
+{
+    if positive {
+        return Ok(());
+    }
+    put_key(out, Keyword::Not)
+}
+
+fn put_body<'a>(out: &mut Vec<Token<'a>>, body: &'a Body) -> Result<(), OutOfMemory>
+    ensures { OnOk result (tokens out.new.items ≡ tokens out.old.items ++ body_tokens body.now) }
+{
+    match body {
+        Body::Happens { positive, event } => {
+            put_unless(out, *positive)?;
+            put_key(out, Keyword::HappensAt)?;
+            put_mark(out, Mark::Open)?;
+            put_event(out, event)?;
+            put_mark(out, Mark::Close)
+        }
+        Body::Holds { positive, fv } => {
+            put_unless(out, *positive)?;
+            put_key(out, Keyword::HoldsAt)?;
+            put_held(out, fv)
+        }
+        Body::Unequal(one, other) => {
+            put_word(out, one)?;
+            put_mark(out, Mark::Differs)?;
+            put_word(out, other)
+        }
+    }
+}
+
+/// Conditions with commas between them.
+pub(crate) fn put_bodies<'a>(
+    out: &mut Vec<Token<'a>>,
+    bodies: &'a [Body],
+) -> Result<(), OutOfMemory>
+    ensures { OnOk result (tokens out.new.items ≡ tokens out.old.items ++ commas (map body_tokens bodies.now)) }
+{
+    for (turn, body) in bodies.iter().enumerate() {
+        put_comma(out, turn)?;
+        put_body(out, body)?;
+    }
+    Ok(())
+}
