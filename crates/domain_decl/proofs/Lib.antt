@@ -1,0 +1,14 @@
+pub mod WordLists
+pub mod Gathering
+pub mod LookUps
+pub mod Anys
+pub mod Prefixes
+pub mod Numbers
+pub mod Refusals
+pub mod Declaring
+pub mod Passed
+pub mod DeclaredWords
+pub mod SoundPlan
+pub mod SoundDeclarations
+pub mod SoundRules
+pub mod Accepting

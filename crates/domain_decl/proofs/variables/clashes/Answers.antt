@@ -1,0 +1,12 @@
+use Rattle.std.proofs.Common.{◌∙◌, sym, rules, tests}
+use Rattle.std.proofs.lemmas.Iterator.{YieldsList-from_slice}
+use Rattle.std.proofs.lemmas.Iterator.Search.{any_from_yields_List}
+use Rattle.domain_decl.specs.Rules.{clash}
+use Rattle.domain_decl.specs.Gathered.{place_of}
+use Rattle.domain_decl.proofs.Anys.{any_of_places}
+use Rattle.domain_decl.proofs.variables.clashes.Goals as goal
+
+pub returns : goal.returns
+returns c =
+    any_from_yields_List (λ other. clash (place_of c.args.one.now) (place_of other)) _ _ _ c.any.ensures.ran (YieldsList-from_slice c.args.places.now cc) (λ x b q k. search (rules, tests))
+    ∙ sym (any_of_places (clash (place_of c.args.one.now)) c.args.places.now)

@@ -1,0 +1,66 @@
+-- What a description declares, or the first rule that it breaks. "Accepted" means here as far as its plan, its declarations
+-- and its rules go.
+use Rattle.std.specs.Prelude.{◌≡◌, List, map, Option, Some, None, Result, Ok, Err}
+use Rattle.ground_types.specs.declared.plan.Plan.{Plan}
+use Rattle.ground_types.specs.declared.program.Domain.{Domain}
+use Rattle.ground_types.specs.declared.program.Name.{Name}
+use Rattle.rule_read.specs.Forms.{PlainStatement, plain}
+use Rattle.domain_decl.specs.declared.checked.Checked.{Checked}
+use Rattle.domain_decl.specs.declared.checked.DeclRefused.{DeclRefused}
+use Rattle.domain_decl.specs.declared.checked.DeclRefused.TheVariants as refused
+use Rattle.domain_decl.specs.Plans.{plan_of}
+use Rattle.domain_decl.specs.Contents.{domains_of, domain_words, names_of, rules_of}
+use Rattle.domain_decl.specs.Declarations.{declaration_refusal}
+use Rattle.domain_decl.specs.Rules.{rule_refusal}
+
+-- what an accepted description says
+pub record PlainChecked : Type 0 where
+  pub plan : Plan
+  pub domains : List Domain
+  pub names : List Name
+  pub rules : List PlainStatement
+
+abbrev pub plain_checked : Checked → PlainChecked
+plain_checked checked = record { plan = checked.plan; domains = checked.domains; names = checked.names; rules = map plain checked.rules }
+
+abbrev pub names_declared : List PlainStatement → List Name
+names_declared statements = names_of (domain_words (domains_of statements)) statements
+
+-- the first refusal, or the other where there is none
+abbrev pub or_else : Option DeclRefused → Option DeclRefused → Option DeclRefused
+or_else (Some refusal) other = Some refusal
+or_else None other = other
+
+-- the first refusal behind the plan: of a declaration, else of a rule
+abbrev pub refusal_behind_plan : List PlainStatement → Option DeclRefused
+refusal_behind_plan statements =
+    or_else (declaration_refusal statements) (rule_refusal (domains_of statements) (names_declared statements) statements)
+
+abbrev pub accept : Plan → List PlainStatement → Option DeclRefused → Result PlainChecked DeclRefused
+accept plan statements (Some refusal) = Err refusal
+accept plan statements None = Ok (record {
+  plan = plan;
+  domains = domains_of statements;
+  names = names_declared statements;
+  rules = rules_of statements;
+})
+
+abbrev pub checked_with : Option Plan → List PlainStatement → Result PlainChecked DeclRefused
+checked_with None statements = Err refused.BadPlan
+checked_with (Some plan) statements = accept plan statements (refusal_behind_plan statements)
+
+-- What statements declare, or the first rule that they break: the plan, then declarations, then rules.
+abbrev pub checking : List PlainStatement → Result PlainChecked DeclRefused
+checking statements = checked_with (plan_of statements) statements
+
+-- what was answered is what checking gives, unless memory ran out
+abbrev pub Answers : Result Checked DeclRefused → Result PlainChecked DeclRefused → Type 0
+Answers (Ok checked) given = given ≡ Ok (plain_checked checked)
+Answers (Err refused.OutOfMemory) given = Unit {0}
+Answers (Err refusal) given = given ≡ Err refusal
+
+-- a test passed, or gave the refusal, unless memory ran out
+abbrev pub Tests : Result (Unit {0}) DeclRefused → Option DeclRefused → Type 0
+Tests (Ok passed) refusal = refusal ≡ None
+Tests (Err refused.OutOfMemory) refusal = Unit {0}
+Tests (Err given) refusal = refusal ≡ Some given

@@ -1,0 +1,13 @@
+pub mod Lists
+pub mod Plans
+pub mod Given
+pub mod Contents
+pub mod Declarations
+pub mod Passes
+pub mod Mentions
+pub mod Rules
+pub mod Accepted
+pub mod Sound
+pub mod Gathered
+pub mod Known
+pub mod Examples

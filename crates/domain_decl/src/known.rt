@@ -1,0 +1,134 @@
+// Declared names and domains, with look-ups by their words.
+ghost use Rattle.std.specs.Prelude.{◌≡◌, ◌++◌, true, option_copied, slice_get, IfOk};
+ghost use Rattle.ground_types.specs.Sound.{is_distinct};
+ghost use Rattle.domain_decl.specs.Lists.{has, place_in};
+ghost use Rattle.domain_decl.specs.Contents.{domain_words, name_words};
+ghost use Rattle.domain_decl.specs.Rules.{declaration, entities_of};
+ghost use Rattle.domain_decl.specs.Known.{HaveSame, AreEntities};
+
+use crate::words::WordSet;
+use ground_types::{Domain, Name};
+use rt_base::{OutOfMemory, Word};
+use std::alloc::Global;
+
+/// Declared domains and names, with hash tables in which their words are found. It borrows the lists and copies no
+/// word; it is made in one pass over the names and the entities.
+#[derive(Drop)]
+pub struct Known<'a> {
+    /// The domains that it was made of, in declared order.
+    pub domains: &'a [Domain],
+    /// The names that it was made of, in declared order.
+    pub names: &'a [Name],
+    /// The words of the names, each at the place of its name.
+    by_word: WordSet<'a>,
+    /// The entities of each domain.
+    entities: Vec<WordSet<'a>>,
+    ghost placed: { by_word ≡ name_words names.now },
+    ghost entities_known: { AreEntities entities.items domains.now },
+}
+
+// The words of names, each at the place of its name.
+fn words_of_names<'a>(alloc: Global, names: &'a [Name]) -> Result<WordSet<'a>, OutOfMemory>
+    requires { is_distinct (name_words names.now) ≡ true }
+    ensures { IfOk result (λ set. set ≡ name_words names.now) }
+{
+    let mut set = WordSet::new(alloc);
+    for name in names {
+        set.insert(name.word.as_str())?;
+    }
+    Ok(set)
+}
+
+// The words of a list, each once.
+fn set_of<'a>(alloc: Global, words: &'a [Word]) -> Result<WordSet<'a>, OutOfMemory>
+    ensures { IfOk result (λ set. HaveSame set words.now) }
+{
+    let mut set = WordSet::new(alloc);
+    for word in words {
+        set.insert(word.as_str())?;
+    }
+    Ok(set)
+}
+
+// For each domain the set of its entities.
+fn entities_of<'a>(alloc: Global, domains: &'a [Domain]) -> Result<Vec<WordSet<'a>>, OutOfMemory>
+    ensures { IfOk result (λ sets. AreEntities sets.items domains.now) }
+{
+    let mut sets = Vec::with_capacity(alloc, domains.len())?;
+    for domain in domains {
+        sets.push(set_of(alloc, domain.entities.as_slice())?)?;
+    }
+    Ok(sets)
+}
+
+fn has_domain(domains: &[Domain], word: &Word) -> bool
+    ensures { result ≡ has (domain_words domains.now) word.now }
+{
+    domains
+        .iter()
+        .any(|domain| domain.word.as_str() == word.as_str())
+}
+
+fn name_at<'a>(names: &'a [Name], place: usize) -> Option<&'a Name>
+    ensures { option_copied result ≡ slice_get names.now place }
+{
+    names.get(place)
+}
+
+impl<'a> Known<'a> {
+    /// The tables of these domains and names, such as `check` gives. No word may be declared twice, domains and names
+    /// together. One look-up and an insertion for each name and each entity.
+    pub fn new(
+        alloc: Global,
+        domains: &'a [Domain],
+        names: &'a [Name],
+    ) -> Result<Known<'a>, OutOfMemory>
+        requires { is_distinct (domain_words domains.now ++ name_words names.now) ≡ true }
+        ensures domains { IfOk result (λ known. known.domains.now ≡ domains.now) }
+        ensures names { IfOk result (λ known. known.names.now ≡ names.now) }
+    {
+        let by_word = words_of_names(alloc, names)?;
+        let entities = entities_of(alloc, domains)?;
+        Ok(Known {
+            domains,
+            names,
+            by_word,
+            entities,
+        })
+    }
+
+    /// The place of the fluent or event of this name among the names, from 0; None where there is none. One look-up.
+    pub fn place(&self, word: &Word) -> Option<usize>
+        ensures { result ≡ place_in (name_words self.now.names.now) word.now }
+    {
+        self.by_word.place(word.as_str())
+    }
+
+    /// The declaration of the fluent or event of this name; None where there is none, as for a domain. One look-up.
+    pub fn declaration(&self, word: &Word) -> Option<&'a Name>
+        ensures { option_copied result ≡ declaration self.now.names.now word.now }
+    {
+        let place = self.by_word.place(word.as_str())?;
+        name_at(self.names, place)
+    }
+
+    /// Whether a domain, a fluent or an event is declared by this word. One look-up, and where that finds no name, a
+    /// walk over the domains.
+    #[tactic(auto, using(crate::proofs::LookUps::has_either))]
+    pub fn is_declared(&self, word: &Word) -> bool
+        ensures { result ≡ has (domain_words self.now.domains.now ++ name_words self.now.names.now) word.now }
+    {
+        self.by_word.contains(word.as_str()) || has_domain(self.domains, word)
+    }
+
+    /// Whether a word is an entity of the domain of this number, counted from 0 in declared order; false where there is
+    /// no such domain. One look-up.
+    pub fn is_entity(&self, domain: u32, word: &Word) -> bool
+        ensures { result ≡ has (entities_of self.now.domains.now domain) word.now }
+    {
+        match self.entities.get(domain as usize) {
+            Some(set) => set.contains(word.as_str()),
+            None => false,
+        }
+    }
+}
