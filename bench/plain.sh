@@ -1,5 +1,5 @@
 #!/usr/bin/env bash
-# Times the built program on the longest plain inputs: 999 adds over descriptions of just under 65,536 bytes.
+# Times the built program on the longest plain script: 999 adds over descriptions of just under 1,048,576 bytes.
 # Usage: bench/plain.sh [PROGRAM]; build it first (`rt run` in crates/rtec_main).
 set -eu
 program=$(realpath "${1:-$(dirname "$0")/../crates/rtec_main/out/rtec_main}")
@@ -8,7 +8,7 @@ trap 'rm -rf "$folder"' EXIT
 cd "$folder"
 python3 - <<'PYTHON'
 head = "window(1000000).\nstep(1000000).\nfrom(0).\n"
-limit = 65536
+limit = 1048576
 
 def write(name, lines):
     text = head
@@ -19,12 +19,12 @@ def write(name, lines):
     open(name, "w").write(text)
 
 # every rule is about one event and one fluent
-write("one_fluent", ["input up.\n", "simple on [true].\n"] + ["initiatedAt(on=true) :- happensAt(up).\n"] * 2000)
+write("one_fluent", ["input up.\n", "simple on [true].\n"] + ["initiatedAt(on=true) :- happensAt(up).\n"] * 40000)
 # one event switches many fluents
-fluents = [f"f{i}" for i in range(1100)]
+fluents = [f"f{i}" for i in range(20000)]
 write("many_fluents", ["input up.\n"] + [f"simple {f} [true].\n" for f in fluents] + [f"initiatedAt({f}=true) :- happensAt(up).\n" for f in fluents])
 # many events, and few rules
-write("many_events", ["input up.\n"] + [f"input e{i}.\n" for i in range(4500)] + ["simple on [true].\n", "initiatedAt(on=true) :- happensAt(up).\n"])
+write("many_events", ["input up.\n"] + [f"input e{i}.\n" for i in range(80000)] + ["simple on [true].\n", "initiatedAt(on=true) :- happensAt(up).\n"])
 open("script", "w").write("".join(f"add,1,{(i * 7919) % 1000000 + 1},up\n" for i in range(999)) + "seal\n")
 PYTHON
 for description in one_fluent many_fluents many_events; do

@@ -1,4 +1,5 @@
 pub mod Both
+pub mod FewChecked
 pub mod ByEvent
 pub mod Counts
 pub mod Evaluations
@@ -9,12 +10,12 @@ pub mod LineTexts
 pub mod Lines
 pub mod Lists
 pub mod Occurs
-pub mod Parts
 pub mod Places
 pub mod PlainRows
 pub mod Powers
 pub mod Programs
 pub mod QueryTable
+pub mod Refused
 pub mod Rising
 pub mod Running
 pub mod Scripts

@@ -1,9 +1,7 @@
 -- The place of the first element that passes.
-use Rattle.std.proofs.Common.{◌≡◌, ℕ, ◌+◌, Bool, true, false, cond, not, nat_lt, List, [], ◌∷◌, length, Some, None, option_map, refl, ap, arith, position, map, Bor, ◌||◌}
+use Rattle.std.proofs.Common.{◌≡◌, ℕ, ◌+◌, Bool, true, false, cond, not, nat_lt, List, [], ◌∷◌, length, Some, None, option_map, refl, arith, position, map}
 use Rattle.std.proofs.lemmas.Bool.Decides.{nat_tests}
-use Rattle.std.specs.List.{position_or_len, list_any}
-use Rattle.std.specs.Str.{bytes_eq}
-use Rattle.rtec_main.specs.Plain.{place_of}
+use Rattle.std.specs.List.{position_or_len}
 
 placed : {X : Type 0} (b : Bool) (x : X) (xs : List X) (n : ℕ) →
     cond (nat_lt (cond (not b) (1 + n) 0) (length (x ∷ xs))) (Some (cond (not b) (1 + n) 0)) None
@@ -17,12 +15,3 @@ position-cons p x xs = placed (p x) x xs (position_or_len p xs)
 position-map : {X Y : Type 0} (p : Y → Bool) (v : X → Y) (xs : List X) → position p (map v xs) ≡ position (λ x. p (v x)) xs
 position-map p v [] = refl
 position-map p v (x ∷ xs) = rw (position-cons p (v x) (map v xs), position-cons (λ y. p (v y)) x xs, position-map p v xs) refl
-
--- the place of a word among words that are seen through slices
-pub place_of_slices : (words : List (Bor (List ℕ))) (word : List ℕ) → place_of (map (λ other. other.now) words) word ≡ position (λ other. bytes_eq other.now word) words
-place_of_slices words word = position-map (λ other. bytes_eq other word) (λ slice. slice.now) words
-
-pub list_any_of_slices : (word : List ℕ) (others : List (Bor (List ℕ))) →
-    list_any (λ other. bytes_eq word other) (map (λ other. other.now) others) ≡ list_any (λ other. bytes_eq word other.now) others
-list_any_of_slices word [] = refl
-list_any_of_slices word (other ∷ others) = ap (λ found. bytes_eq word other.now || found) (list_any_of_slices word others)

@@ -4,7 +4,7 @@ use Rattle.std.specs.Prelude.{IfSome}
 use Rattle.rt_base.specs.Outside.{Rose, with_bytes}
 use Rattle.ground_types.specs.declared.entries.Command.{Command}
 use Rattle.ground_types.specs.declared.program.Program.{Program}
-use Rattle.rtec_main.specs.Plain.{described}
+use Rattle.rtec_main.specs.Plain.{described, Describes}
 use Rattle.rtec_main.specs.Script.{script_of}
 use Rattle.rtec_main.specs.Report.{report_text}
 use Rattle.rtec_main.specs.Run.{World, Files, IsReport, MeansOfWords, WritesReport, WritesPart, files_of}
@@ -12,7 +12,7 @@ use Rattle.rtec_main.specs.declared.status.Status.TheVariants as status
 
 -- what was made of the two inputs, the script's bytes being told by the inputs as they were when it was read
 pub record IsMade (old : World) (later : List ℕ → Option (List ℕ)) (files : Files) (program : Program) (commands lent : List Command) (text : List ℕ) : Type 0 where
-  pub describes : IfSome (old.bytes files.description) (λ d. described d ≡ Some program)
+  pub describes : IfSome (old.bytes files.description) (λ d. described d ≡ Describes program)
   pub scripted : IfSome (later files.script) (λ s. script_of program s ≡ Some commands)
   pub same : later files.script ≡ old.bytes files.script
   pub lent_is : lent ≡ commands

@@ -26,9 +26,9 @@ plain_by : (events : ℕ) (initially : Option ℕ) (initiate terminate : List Ru
     is_plain_kind events (Simple initially initiate terminate) ≡ true → ArePlain events initially initiate terminate
 plain_by events None initiate terminate plain = record {
   opening = refl;
-  inits = and_left (list_all (is_plain_rule events) initiate) (leb (length initiate) 65536)
+  inits = and_left (list_all (is_plain_rule events) initiate) (leb (length initiate) 1048576)
       (and_left (are_plain_rules events initiate) (are_plain_rules events terminate) plain);
-  terms = and_left (list_all (is_plain_rule events) terminate) (leb (length terminate) 65536)
+  terms = and_left (list_all (is_plain_rule events) terminate) (leb (length terminate) 1048576)
       (and_right (are_plain_rules events initiate) (are_plain_rules events terminate) plain);
 }
 plain_by events (Some v) initiate terminate plain = cc

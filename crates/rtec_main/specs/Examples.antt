@@ -1,11 +1,18 @@
 -- The first run, from its two texts to its report: each equation holds by computation alone.
 use Rattle.std.specs.Fmt.{digits}
-use Rattle.std.specs.Prelude.{◌≡◌, ℕ, List, [], ◌∷◌, codes, Some, None, refl, take, length, ◌-◌}
+use Rattle.std.specs.Prelude.{◌≡◌, ℕ, List, [], ◌∷◌, codes, Some, None, refl}
 use Rattle.ground_types.specs.Examples.{lamp}
 use Rattle.ground_types.specs.declared.entries.Act.TheVariants.{Add}
 use Rattle.ground_types.specs.declared.entries.Command.{Command}
 use Rattle.ground_types.specs.declared.entries.Command.TheVariants.{Feed, Seal}
-use Rattle.rtec_main.specs.Plain.{described}
+use Rattle.rtec_main.specs.Plain.{described, Describes, Faulty}
+use Rattle.rule_read.specs.Bytes.{class_of}
+use Rattle.rule_read.specs.Tokens.{cut}
+use Rattle.rule_read.specs.Sentences.{sentences, first_bad}
+use Rattle.rule_read.specs.Words.{keyword_of}
+use Rattle.rule_read.specs.Reading.{bind, mapped, enclosed_at, row_at, args_at, decl_at, term_at, atom_at, fv_at, event_at, condition_at, unequal_at, body_at, number_at, valued_at, conditions_at, rule_at, form_at, form_of}
+use Rattle.rule_read.specs.Whole.{forms_of}
+use Rattle.rtec_main.specs.declared.status.DescFault.TheVariants as fault
 use Rattle.rtec_main.specs.Script.{script_of}
 use Rattle.rtec_main.specs.Report.{text_of_lines, report_text}
 
@@ -15,12 +22,22 @@ lamp_text =
     (codes "window(10)." ∷ codes "step(5)." ∷ codes "from(0)." ∷ codes "input up." ∷ codes "input down." ∷ codes "simple on [true]."
     ∷ codes "initiatedAt(on=true) :- happensAt(up)." ∷ codes "terminatedAt(on=true) :- happensAt(down)." ∷ [])
 
-lamp_described : described lamp_text ≡ Some lamp
+lamp_described : described lamp_text ≡ Describes lamp
+unfolding cut class_of sentences first_bad keyword_of bind mapped enclosed_at row_at args_at decl_at term_at atom_at fv_at event_at condition_at unequal_at body_at number_at valued_at conditions_at rule_at form_at form_of forms_of
 lamp_described = refl
 
--- without its last line feed
-lamp_cut : described (take (length lamp_text - 1) lamp_text) ≡ None
-lamp_cut = refl
+-- a byte that is not permitted, a statement without its dot, and no plan
+lamp_faulty : described (codes "input up;") ≡ Faulty (fault.BadByte 1)
+unfolding cut class_of sentences first_bad keyword_of bind mapped enclosed_at row_at args_at decl_at term_at atom_at fv_at event_at condition_at unequal_at body_at number_at valued_at conditions_at rule_at form_at form_of forms_of
+lamp_faulty = refl
+
+lamp_unformed : described (codes "input up") ≡ Faulty (fault.BadStatement 1)
+unfolding cut class_of sentences first_bad keyword_of bind mapped enclosed_at row_at args_at decl_at term_at atom_at fv_at event_at condition_at unequal_at body_at number_at valued_at conditions_at rule_at form_at form_of forms_of
+lamp_unformed = refl
+
+lamp_without_plan : described (codes "input up.") ≡ Faulty fault.BadPlan
+unfolding cut class_of sentences first_bad keyword_of bind mapped enclosed_at row_at args_at decl_at term_at atom_at fv_at event_at condition_at unequal_at body_at number_at valued_at conditions_at rule_at form_at form_of forms_of
+lamp_without_plan = refl
 
 abbrev first_commands : List Command
 first_commands = Feed 1 Add 0 3 ∷ Feed 1 Add 1 7 ∷ Feed 1 Add 0 9 ∷ Seal ∷ []

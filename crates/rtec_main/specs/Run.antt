@@ -4,11 +4,13 @@ use Rattle.std.specs.Str.{bytes_eq}
 use Rattle.rt_base.specs.Outside.{Rose, with_bytes}
 use Rattle.ground_types.specs.declared.entries.Command.{Command}
 use Rattle.ground_types.specs.declared.program.Program.{Program}
-use Rattle.rtec_main.specs.Plain.{described}
+use Rattle.rtec_main.specs.Plain.{Described, described, TooLong, Faulty, NotPlain, Describes}
 use Rattle.rtec_main.specs.Script.{script_of}
 use Rattle.rtec_main.specs.Report.{report_text}
+use Rattle.rtec_main.specs.declared.status.DescFault.TheVariants as fault
 use Rattle.rtec_main.specs.declared.status.Status.{Status}
 use Rattle.rtec_main.specs.declared.status.Status.TheVariants as status
+use Rattle.rt_base.specs.declared.limit.Limit.TheVariants as limit
 
 -- a file name is not empty and does not begin with `-`
 abbrev pub is_file : List ℕ → Bool
@@ -39,9 +41,9 @@ pub record World : Type 0 where
 abbrev pub Told : World → List ℕ → (List ℕ → Type 0) → Type 0
 Told world name P = IfSome (world.bytes name) P
 
--- where its bytes are told, the description is plain and describes the program; where not, any program will do
+-- where its bytes are told, the description describes the program; where not, any program will do
 abbrev pub IsDescribed : World → Files → Program → Type 0
-IsDescribed world files program = Told world files.description (λ text. described text ≡ Some program)
+IsDescribed world files program = Told world files.description (λ text. described text ≡ Describes program)
 
 -- where its bytes are told, the script is plain and has the commands
 abbrev pub IsScript : World → Files → Program → List Command → Type 0
@@ -77,9 +79,11 @@ pub record WritesPart (old new : World) (files : Files) : Type 0 where
 abbrev pub Means : World → World → Files → Status → Type 0
 Means old new files status.Done = WritesReport old new files
 Means old new files status.BadWords = ⊥
-Means old new files (status.BadDescription fault) = ⊥
+Means old new files (status.BadDescription (fault.Cyclic line)) = ⊥
+Means old new files (status.BadDescription why) = Told old files.description (λ text. described text ≡ Faulty why) × WritesNothing old new
 Means old new files (status.BadScript input place fault) = ⊥
-Means old new files (status.TooLarge limit) = ⊥
+Means old new files (status.TooLarge limit.Description) = Told old files.description (λ text. described text ≡ TooLong) × WritesNothing old new
+Means old new files (status.TooLarge other) = ⊥
 Means old new files (status.ReadFault zero) = Rose (old.faults files.description) (new.faults files.description) × WritesNothing old new
 Means old new files (status.ReadFault (suc zero)) =
     Rose (old.faults files.script) (new.faults files.script) × ((program : Program) × IsDescribed old files program) × WritesNothing old new
@@ -87,7 +91,7 @@ Means old new files (status.ReadFault (suc (suc input))) = ⊥
 Means old new files status.WriteFault = Rose old.write_faults new.write_faults × WritesPart old new files
 Means old new files status.OutOfMemory = WritesNothing old new
 Means old new files (status.Differs number line) = ⊥
-Means old new files (status.NotBuilt zero) = Told old files.description (λ text. described text ≡ None) × WritesNothing old new
+Means old new files (status.NotBuilt zero) = Told old files.description (λ text. described text ≡ NotPlain) × WritesNothing old new
 Means old new files (status.NotBuilt (suc zero)) =
     ((program : Program) × IsDescribed old files program × Told old files.script (λ text. script_of program text ≡ None)) × WritesNothing old new
 Means old new files (status.NotBuilt (suc (suc input))) = ⊥
@@ -108,10 +112,12 @@ abbrev pub outcome_of_script : Option (List Command) → Status
 outcome_of_script None = status.NotBuilt 1
 outcome_of_script (Some commands) = status.Done
 
--- the status that the program of the description and the bytes of the script come to
-abbrev pub outcome : Option Program → List ℕ → Status
-outcome None script = status.NotBuilt 0
-outcome (Some program) script = outcome_of_script (script_of program script)
+-- the status that a description and the bytes of a script come to
+abbrev pub outcome : Described → List ℕ → Status
+outcome TooLong script = status.TooLarge limit.Description
+outcome (Faulty why) script = status.BadDescription why
+outcome NotPlain script = status.NotBuilt 0
+outcome (Describes program) script = outcome_of_script (script_of program script)
 
 -- where the files are told and nothing failed, the status is what their bytes come to, or memory ran out
 abbrev pub Completes : World → World → Option Files → Status → Type 0

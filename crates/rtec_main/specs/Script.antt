@@ -8,7 +8,10 @@ use Rattle.ground_types.specs.declared.entries.Command.{Command}
 use Rattle.ground_types.specs.declared.entries.Command.TheVariants.{Feed, Seal}
 use Rattle.ground_types.specs.declared.program.Program.{Program}
 use Rattle.rtec_main.specs.Texts.{◌>>=◌, lines_of, split_at_byte, after_front, number_of}
-use Rattle.rtec_main.specs.Plain.{longest}
+
+-- the longest script, in bytes
+abbrev pub longest : ℕ
+longest = 65536
 
 -- one digit, 1 to 8
 abbrev pub feeder_of : List ℕ → Option ℕ

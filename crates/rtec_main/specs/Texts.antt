@@ -1,5 +1,5 @@
 -- Lines, parts and numbers of a text.
-use Rattle.std.specs.Prelude.{ℕ, ◌+◌, ◌-◌, ◌*◌, nat_le, Bool, true, false, not, ◌&&◌, ◌==◌, if◌then◌else◌, List, [], ◌∷◌, length, take, drop, option_map, option_and_then, Option, Some, None}
+use Rattle.std.specs.Prelude.{ℕ, ◌+◌, ◌-◌, ◌*◌, nat_le, Bool, ◌&&◌, ◌==◌, if◌then◌else◌, List, [], ◌∷◌, length, take, drop, option_map, option_and_then, Option, Some, None}
 use Rattle.std.specs.Str.{bytes_eq}
 
 -- a step that goes on with what there is
@@ -26,17 +26,6 @@ split_at_byte wanted (b ∷ bs) = if b == wanted then Some ([], bs) else option_
 abbrev pub after_front : List ℕ → List ℕ → Option (List ℕ)
 after_front front text = if bytes_eq (take (length front) text) front then Some (drop (length front) text) else None
 
--- what stands before these bytes, where the text ends with them
-abbrev pub before_back : List ℕ → List ℕ → Option (List ℕ)
-before_back back text =
-    if bytes_eq (drop (length text - length back) text) back then Some (take (length text - length back) text) else None
-
--- the part of a text between a front and a back
-abbrev pub inside : List ℕ → List ℕ → List ℕ → Option (List ℕ)
-inside front back text = do
-  rest ← after_front front text
-  before_back back rest
-
 abbrev pub is_digit : ℕ → Bool
 is_digit c = nat_le 48 c && nat_le c 57
 
@@ -49,13 +38,3 @@ number_from n (c ∷ cs) = if is_digit c then number_from (10 * n + (c - 48)) cs
 abbrev pub number_of : List ℕ → Option ℕ
 number_of [] = None
 number_of (c ∷ cs) = if nat_le (length (c ∷ cs)) 16 then number_from 0 (c ∷ cs) else None
-
--- digits that begin with 0 only where that is all
-abbrev pub is_canonical : List ℕ → Bool
-is_canonical [] = false
-is_canonical (c ∷ []) = true
-is_canonical (c ∷ d ∷ more) = not (c == 48)
-
--- 1 to 16 digits without leading zeros
-abbrev pub canonical_number : List ℕ → Option ℕ
-canonical_number digits = if is_canonical digits then number_of digits else None

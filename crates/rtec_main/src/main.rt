@@ -1,10 +1,12 @@
 //! `rtec`, a recogniser of composite activities over streams of events, after the Run-Time Event Calculus.
 //! Its promise stands on `run`: what is written is the report text of the description and the script, and each other
-//! status but want of memory names its cause. The words, reading, replies and printing are private parts. `main` makes the real inputs,
-//! the real standard output and a gate that holds nobody, and calls `run`.
+//! status but want of memory names its cause. Reading words and inputs, plain programs and scripts, replies and
+//! printing are private parts. `main` makes the real inputs, the real standard output and a gate that holds nobody,
+//! and calls `run`.
 #![tactic(auto)]
 
 mod ends;
+mod inputs;
 mod plain;
 mod printing;
 mod reads;

@@ -9,7 +9,8 @@ ghost use Rattle.simple_fluent.specs.Rows.{pairs};
 ghost use Rattle.rtec_main.specs.Report.{word_of, value_words, act_word, reply_word, span_text, fluent_lines, unit_lines, row_lines, query_line, text_of_lines};
 ghost use Rattle.rtec_main.specs.Printed.{feed_lines, event_lines};
 
-use ground_types::{Act, Entry, EventId, Name, NameKind, Point, Program, Reply, Unit};
+use crate::plain::is_input;
+use ground_types::{Act, Entry, EventId, Name, Point, Program, Reply, Unit};
 use itoa::{Buffer, Integer};
 use rt_base::{OutOfMemory, Word};
 use span_algebra::{Span, Spans, UnitRows};
@@ -35,7 +36,7 @@ pub fn put_number<I: Integer>(out: &mut Vec<u8>, n: I) -> Result<(), OutOfMemory
 fn is_input_from(name: &Name, event: EventId) -> bool
     ensures { result ≡ (is_input name.now.kind && (name.now.first == event)) }
 {
-    matches!(name.kind, NameKind::Input) && name.first == event
+    is_input(name.kind) && name.first == event
 }
 
 // The input whose first event is this one.

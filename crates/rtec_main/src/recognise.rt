@@ -80,9 +80,9 @@ fn rows_of_unit(
 // How many bodies of some plain rules have to be looked at.
 fn evaluations_of_rules(standing: &[Points], rules: &[Rule]) -> u128
     requires plain { list_all (is_plain_rule (length standing.now)) rules.now ≡ true }
-    requires few { length rules.now ≤ 65536 }
+    requires few { length rules.now ≤ 1048576 }
     ensures count { result ≡ evaluations_of_rules standing.now rules.now }
-    ensures most { result ≤ 65536 * 2 ^ 64 }
+    ensures most { result ≤ 1048576 * 2 ^ 64 }
 {
     let mut count = 0;
     for rule in rules {
@@ -95,7 +95,7 @@ fn evaluations_of_rules(standing: &[Points], rules: &[Rule]) -> u128
 fn evaluations_of_unit(standing: &[Points], unit: &Unit) -> u128
     requires { is_plain_kind (length standing.now) unit.now.kind ≡ true }
     ensures count { result ≡ evaluations_of_kind standing.now unit.now.kind }
-    ensures most { result ≤ 2 * 65536 * 2 ^ 64 }
+    ensures most { result ≤ 2 * 1048576 * 2 ^ 64 }
 {
     match &unit.kind {
         UnitKind::Simple {

@@ -5,13 +5,16 @@ ghost use Rattle.ground_types.specs.Sound.{is_input};
 ghost use Rattle.rtec_main.specs.Plain.{IsPlain};
 ghost use Rattle.rtec_main.specs.Script.{script_of, commands_in, adds_in, add_in, event_of, feeder_of, IsPlainScript};
 
-use crate::plain::LONGEST;
+use crate::plain::is_input;
 use crate::texts::{after_front, lines, number, split_at_byte};
-use ground_types::{Act, Command, EventId, Name, NameKind, Program};
+use ground_types::{Act, Command, EventId, Name, Program};
 use rt_base::OutOfMemory;
 use std::alloc::Global;
 
-/// The most lines of a script.
+/// The longest script, in bytes.
+pub const LONGEST_SCRIPT: usize = 65536;
+
+// The most lines of a script.
 const MOST_LINES: usize = 1000;
 
 // One digit, 1 to 8.
@@ -22,12 +25,6 @@ fn feeder_of(field: &[u8]) -> Option<u8>
         [digit @ b'1'..=b'8'] => Some(*digit - b'0'),
         _ => None,
     }
-}
-
-fn is_input(kind: NameKind) -> bool
-    ensures { result ≡ is_input kind }
-{
-    kind == NameKind::Input
 }
 
 fn is_event(name: &Name, word: &[u8]) -> bool
@@ -117,7 +114,7 @@ pub fn script(
     ensures exact { IfOk result (λ found. option_map (λ commands. commands.items) found ≡ script_of program.now text.now) }
     ensures plain { IfOk result (λ found. IfSome found (λ commands. IsPlainScript program.now.events commands.items)) }
 {
-    if text.len() > LONGEST {
+    if text.len() > LONGEST_SCRIPT {
         return Ok(None);
     }
     let Some(lines) = lines(alloc, text)? else {

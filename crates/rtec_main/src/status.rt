@@ -87,7 +87,7 @@ pub enum Status {
         number: u32,
         line: u32,
     },
-    /// The input is not of the form that is built, or is too long for it.
+    /// The input is of a form that does not run yet, or a script is too long for it.
     NotBuilt {
         input: u8,
     },
@@ -166,11 +166,6 @@ mod tests {
             (Status::Done, 0, ""),
             (Status::BadWords, 2, "words are not of a known command"),
             (
-                Status::BadDescription(DescFault::Cyclic { line: 4 }),
-                3,
-                "description line 4: cyclic",
-            ),
-            (
                 Status::BadDescription(DescFault::BadPlan),
                 3,
                 "description: bad plan",
@@ -195,6 +190,13 @@ mod tests {
             ),
             (
                 Status::TooLarge {
+                    limit: Limit::Description,
+                },
+                5,
+                "too large: description",
+            ),
+            (
+                Status::TooLarge {
                     limit: Limit::Units,
                 },
                 5,
@@ -215,6 +217,49 @@ mod tests {
             (Status::NotBuilt { input: 0 }, 10, "input 0 is not built"),
         ] {
             assert_eq!(rt; status.number(), number, "{line}");
+            assert_eq!(rt; status.to_string(rt.alloc())?.as_str(), line);
+        }
+        Ok(())
+    }
+
+    #[test]
+    fn faults_of_descriptions_have_their_words(rt: HostRuntime) -> Result<(), Fail> {
+        for (fault, line) in [
+            (
+                DescFault::BadByte { line: 1 },
+                "description line 1: bad byte",
+            ),
+            (
+                DescFault::BadStatement { line: 2 },
+                "description line 2: bad statement",
+            ),
+            (
+                DescFault::TooMany { line: 3 },
+                "description line 3: too many",
+            ),
+            (
+                DescFault::Undeclared { line: 4 },
+                "description line 4: undeclared",
+            ),
+            (DescFault::Twice { line: 5 }, "description line 5: twice"),
+            (
+                DescFault::NoTrigger { line: 6 },
+                "description line 6: no trigger",
+            ),
+            (
+                DescFault::WrongKind { line: 7 },
+                "description line 7: wrong kind",
+            ),
+            (DescFault::Arity { line: 8 }, "description line 8: arity"),
+            (DescFault::Clash { line: 9 }, "description line 9: clash"),
+            (DescFault::Loose { line: 10 }, "description line 10: loose"),
+            (
+                DescFault::Cyclic { line: 11 },
+                "description line 11: cyclic",
+            ),
+        ] {
+            let status = Status::BadDescription(fault);
+            assert_eq!(rt; status.number(), 3, "{line}");
             assert_eq!(rt; status.to_string(rt.alloc())?.as_str(), line);
         }
         Ok(())

@@ -1,6 +1,6 @@
 // Lines, parts and numbers of a text.
 ghost use Rattle.std.specs.Prelude.{◌≡◌, ◌≤◌, ◌==◌, map, length, position, vec_len, option_map, option_copied, IfOk, IfSome};
-ghost use Rattle.rtec_main.specs.Texts.{lines_of, split_at_byte, after_front, inside, number_of, canonical_number};
+ghost use Rattle.rtec_main.specs.Texts.{lines_of, split_at_byte, after_front, number_of};
 
 use rt_base::OutOfMemory;
 use std::alloc::Global;
@@ -44,13 +44,6 @@ pub fn after_front<'a>(text: &'a [u8], front: &[u8]) -> Option<&'a [u8]>
     text.strip_prefix(front)
 }
 
-/// The part of a text between a front and a back.
-pub fn inside<'a>(text: &'a [u8], front: &[u8], back: &[u8]) -> Option<&'a [u8]>
-    ensures { option_copied result ≡ inside front.now back.now text.now }
-{
-    after_front(text, front)?.strip_suffix(back)
-}
-
 /// The number of 1 to 16 digits, leading zeros allowed.
 pub fn number(text: &[u8]) -> Option<u64>
     ensures { result ≡ number_of text.now }
@@ -66,14 +59,4 @@ pub fn number(text: &[u8]) -> Option<u64>
         value = 10 * value + u64::from(*c - b'0');
     }
     Some(value)
-}
-
-/// The number of 1 to 16 digits without leading zeros.
-pub fn canonical_number(text: &[u8]) -> Option<u64>
-    ensures { result ≡ canonical_number text.now }
-{
-    match text {
-        [] | [b'0', _, ..] => None,
-        _ => number(text),
-    }
 }

@@ -1,6 +1,6 @@
 use super::run;
 use crate::status::Status;
-use rt_base::{MemoryInputs, MemorySink, NoGate, Word};
+use rt_base::{Limit, MemoryInputs, MemorySink, NoGate, Word};
 use std::alloc::Global;
 use std::test::Fail;
 use std::thread::Threads;
@@ -58,6 +58,13 @@ fn ran(
     ran_over(rt, files, &[], 1000, &[])
 }
 
+// The text with one part of it changed.
+fn changed(alloc: Global, text: &str, from: &str, to: &str) -> Result<String, Fail> {
+    let (front, back) = text.split_once(from).ok_or("the part is not there")?;
+    Ok(format!(in alloc; "{front}{to}{back}")?)
+}
+
+mod descriptions;
 mod near_misses;
 
 #[test]
@@ -234,13 +241,14 @@ fn faults_name_their_cause(rt: HostRuntime) -> Result<(), Fail> {
 #[test]
 fn no_more_than_a_byte_past_the_bound_is_read(rt: HostRuntime) -> Result<(), Fail> {
     let alloc = rt.alloc();
-    let long = vec![in alloc; b'%'; 200_000]?;
+    let long = vec![in alloc; b'%'; 1_200_000]?;
     let mut files = Vec::new(alloc);
     files.push(file(alloc, "desc", &long)?)?;
 
-    // Sixteen reads take 65,536 bytes, the next one takes one, and none may follow.
-    let (status, _) = ran_over(&rt, files, &[17], 1000, &[])?;
-    assert_eq!(rt; status, Status::NotBuilt { input: 0 });
+    // 256 reads take 1,048,576 bytes, the next one takes one, and none may follow.
+    let (status, _) = ran_over(&rt, files, &[257], 1000, &[])?;
+    let limit = Limit::Description;
+    assert_eq!(rt; status, Status::TooLarge { limit });
     Ok(())
 }
 

@@ -7,5 +7,5 @@ abbrev pub invariant-loop-unit : goal.invariant-loop-unit
 invariant-loop-unit l = record {
   rows : map plain_rows l.rows.items ≡ map (λ unit. rows_of_unit l.standing.items unit.kind l.w l.q) (take l.unit-index l.unit-items);
   count : l.evaluations ≡ sum_by (λ unit. evaluations_of_kind l.standing.items unit.kind) (take l.unit-index l.unit-items);
-  most : l.evaluations ≤ l.unit-index * (2 * 65536 * 2 ^ 64);
+  most : l.evaluations ≤ l.unit-index * (2 * 1048576 * 2 ^ 64);
 }
