@@ -1,0 +1,9 @@
+pub mod Marks
+pub mod Walking
+pub mod Searching
+pub mod Places
+pub mod Heads
+pub mod Chains
+pub mod Layered
+pub mod OneLayering
+pub mod Falling
