@@ -13,8 +13,9 @@ use Rattle.ground_types.specs.Sound.{is_distinct}
 use Rattle.domain_decl.specs.Lists.{has, place_in}
 use Rattle.domain_decl.specs.Contents.{name_words}
 use Rattle.domain_decl.specs.Rules.{declaration, entities_in}
-use Rattle.domain_decl.specs.Known.{words_in, HaveSame, AreEntities}
+use Rattle.domain_decl.specs.Known.{words_in, HaveSame, IsSetOf, AreEntities}
 use Rattle.domain_decl.proofs.Declaring.{has_put}
+use Rattle.domain_decl.proofs.WordLists.{is_distinct-push, is_distinct-front}
 
 module _ {X : Type 0} (word_of : X → List ℕ) (word : List ℕ) where
   -- a word stands in the list of the words of some items where one of them has it
@@ -47,24 +48,42 @@ module _ (names : List Name) (word : List ℕ) where
 
 -- ---- sets of words
 
+and_right : (a b : Bool) → (a && b) ≡ true → b ≡ true
+and_right true b e = e
+and_right false b e = absurd (true≢false (sym e))
+
 -- a set in which a word was put has the words up to that word where it had those before it
-pub one_more_same : (set now words : List (List ℕ)) (w : List ℕ) (added : Bool) → added ≡ not (has set w) → now ≡ (if added then set ++ w ∷ [] else set) → HaveSame set words → HaveSame now (words ++ w ∷ [])
+one_more_same : (set now words : List (List ℕ)) (w : List ℕ) (added : Bool) → added ≡ not (has set w) → now ≡ (if added then set ++ w ∷ [] else set) → HaveSame set words → HaveSame now (words ++ w ∷ [])
 one_more_same set now words w added test put same =
     λ word. has_put set now w added test put word ∙ ap (λ b. b || (bytes_eq w word || false)) (same word) ∙ sym (list_any-append (λ o. bytes_eq o word) words (w ∷ []))
 
+-- and where they are distinct, it is the list of them
+one_more_distinct : (set now words : List (List ℕ)) (w : List ℕ) (added : Bool) → added ≡ not (has set w) → now ≡ (if added then set ++ w ∷ [] else set) → (is_distinct words ≡ true → set ≡ words) → is_distinct (words ++ w ∷ []) ≡ true → now ≡ words ++ w ∷ []
+one_more_distinct set now words w added test put held h =
+    let e : set ≡ words = held (is_distinct-front words (w ∷ []) h) in
+    let unseen : not (has words w) ≡ true = and_right (is_distinct words) (not (has words w)) (sym (is_distinct-push words w) ∙ h) in
+    let new : added ≡ true = test ∙ ap (λ l. not (has l w)) e ∙ unseen in
+    put ∙ ap (λ b. if b then set ++ w ∷ [] else set) new ∙ ap (λ l. l ++ w ∷ []) e
+
+pub one_more : (set now words : List (List ℕ)) (w : List ℕ) (added : Bool) → added ≡ not (has set w) → now ≡ (if added then set ++ w ∷ [] else set) → IsSetOf set words → IsSetOf now (words ++ w ∷ [])
+one_more set now words w added test put held = record {
+  same = one_more_same set now words w added test put held.same;
+  distinct = one_more_distinct set now words w added test put held.distinct;
+}
+
 -- ---- a set for each domain
 
-abbrev pub IsSetOf : List (List ℕ) → Domain → Type 0
-IsSetOf set domain = HaveSame set domain.entities
+abbrev pub IsOfDomain : List (List ℕ) → Domain → Type 0
+IsOfDomain set domain = IsSetOf set domain.entities
 
-by_place : (o : Option (List (List ℕ))) (d : Option Domain) → MatchOption o (Unit {0}) (λ set. IsSomeAnd d (IsSetOf set)) → MatchOption d (Unit {0}) (λ domain. IsSomeAnd o (λ set. IsSetOf set domain)) → HaveSame (words_in o) (entities_in d)
-by_place None None p q = λ word. refl
+by_place : (o : Option (List (List ℕ))) (d : Option Domain) → MatchOption o (Unit {0}) (λ set. IsSomeAnd d (IsOfDomain set)) → MatchOption d (Unit {0}) (λ domain. IsSomeAnd o (λ set. IsOfDomain set domain)) → IsSetOf (words_in o) (entities_in d)
+by_place None None p q = record { same = λ word. refl; distinct = λ h. refl }
 by_place None (Some d) p q = absurd q
 by_place (Some s) None p q = absurd p
 by_place (Some s) (Some d) p q = p
 
-pub sets_by_place : (sets : List (List (List ℕ))) (domains : List Domain) → AllZip IsSetOf sets domains → AreEntities sets domains
-sets_by_place sets domains all = λ d. by_place (slice_get sets d) (slice_get domains d) (AllZip-left IsSetOf sets domains all d) (AllZip-right IsSetOf sets domains all d)
+pub sets_by_place : (sets : List (List (List ℕ))) (domains : List Domain) → AllZip IsOfDomain sets domains → AreEntities sets domains
+sets_by_place sets domains all = λ d. by_place (slice_get sets d) (slice_get domains d) (AllZip-left IsOfDomain sets domains all d) (AllZip-right IsOfDomain sets domains all d)
 
 -- ---- words of two lists
 
@@ -76,10 +95,6 @@ or_swap false false = refl
 
 pub has_either : (words others : List (List ℕ)) (word : List ℕ) → has (words ++ others) word ≡ (has others word || has words word)
 has_either words others word = list_any-append (λ o. bytes_eq o word) words others ∙ or_swap (has words word) (has others word)
-
-and_right : (a b : Bool) → (a && b) ≡ true → b ≡ true
-and_right true b e = e
-and_right false b e = absurd (true≢false (sym e))
 
 pub is_distinct-back : (words others : List (List ℕ)) → is_distinct (words ++ others) ≡ true → is_distinct others ≡ true
 is_distinct-back [] others e = e

@@ -4,7 +4,7 @@ ghost use Rattle.ground_types.specs.Sound.{is_distinct};
 ghost use Rattle.domain_decl.specs.Lists.{has, place_in};
 ghost use Rattle.domain_decl.specs.Contents.{domain_words, name_words};
 ghost use Rattle.domain_decl.specs.Rules.{declaration, entities_of};
-ghost use Rattle.domain_decl.specs.Known.{HaveSame, AreEntities};
+ghost use Rattle.domain_decl.specs.Known.{IsSetOf, AreEntities};
 
 use crate::words::WordSet;
 use ground_types::{Domain, Name};
@@ -21,7 +21,7 @@ pub struct Known<'a> {
     pub names: &'a [Name],
     /// The words of the names, each at the place of its name.
     by_word: WordSet<'a>,
-    /// The entities of each domain.
+    /// The entities of each domain, each at its place where no two of them are the same.
     entities: Vec<WordSet<'a>>,
     ghost placed: { by_word ≡ name_words names.now },
     ghost entities_known: { AreEntities entities.items domains.now },
@@ -39,9 +39,9 @@ fn words_of_names<'a>(alloc: Global, names: &'a [Name]) -> Result<WordSet<'a>, O
     Ok(set)
 }
 
-// The words of a list, each once.
+// The words of a list, each once, in the order of the list.
 fn set_of<'a>(alloc: Global, words: &'a [Word]) -> Result<WordSet<'a>, OutOfMemory>
-    ensures { IfOk result (λ set. HaveSame set words.now) }
+    ensures { IfOk result (λ set. IsSetOf set words.now) }
 {
     let mut set = WordSet::new(alloc);
     for word in words {
@@ -129,6 +129,17 @@ impl<'a> Known<'a> {
         match self.entities.get(domain as usize) {
             Some(set) => set.contains(word.as_str()),
             None => false,
+        }
+    }
+
+    /// The number of an entity in the domain of this number, both counted from 0 in declared order; None where it is
+    /// none. The entities of the domain have to be different, as `check` sees to. One look-up.
+    pub fn entity(&self, domain: u32, word: &Word) -> Option<usize>
+        ensures { is_distinct (entities_of self.now.domains.now domain) ≡ true → result ≡ place_in (entities_of self.now.domains.now domain) word.now }
+    {
+        match self.entities.get(domain as usize) {
+            Some(set) => set.place(word.as_str()),
+            None => None,
         }
     }
 }

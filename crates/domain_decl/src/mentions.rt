@@ -82,8 +82,19 @@ fn head_of<'a>(form: &'a Form) -> Option<Mention<'a>>
     }
 }
 
-/// The conditions of a rule, none where a statement has none.
-pub(crate) fn conditions_of(form: &Form) -> &[Body]
+/// The atom of an event: itself, or that of the fluent-value that begins or ends.
+pub fn atom_of(event: &EventText) -> &Atom
+    ensures { result.now ≡ (event_mention event.now).atom }
+{
+    match event {
+        EventText::Plain(atom) => atom,
+        EventText::Start(fv) => &fv.atom,
+        EventText::End(fv) => &fv.atom,
+    }
+}
+
+/// The conditions of a rule, the trigger among them, none where a statement has none.
+pub fn conditions_of(form: &Form) -> &[Body]
     ensures { result.now ≡ conditions_of (plain_form form.now) }
 {
     match form {

@@ -3,18 +3,18 @@ ghost use Rattle.std.specs.Prelude.{◌≡◌, true, ◌++◌, IfOk};
 ghost use Rattle.ground_types.specs.Sound.{is_distinct};
 ghost use Rattle.domain_decl.specs.Contents.{domain_words, name_words};
 
-use crate::{Checked, DeclRefused, Known, check};
+use crate::{Checked, DeclRefused, Known, check, places};
 use rt_base::Word;
 use rule_read::read;
 use std::alloc::Global;
 use std::test::Fail;
 
-const A_PLAN: &str = "window(10).
+const LAMP_PLAN: &str = "window(10).
 step(5).
 from(0).
 ";
 
-const A_NAMES: &str = "window(10).
+const LAMP_NAMES: &str = "window(10).
 step(5).
 from(0).
 input up.
@@ -22,11 +22,11 @@ input down.
 simple on [true].
 ";
 
-const A_RULES: &str = "initiatedAt(on=true) :- happensAt(up).
+const LAMP_RULES: &str = "initiatedAt(on=true) :- happensAt(up).
 terminatedAt(on=true) :- happensAt(down).
 ";
 
-const B: &str = "window(10).
+const GEAR: &str = "window(10).
 step(5).
 input low_on.
 input high_on.
@@ -35,7 +35,7 @@ initiatedAt(gear=low) :- happensAt(low_on).
 initiatedAt(gear=high) :- happensAt(high_on).
 ";
 
-const C: &str = "window(10).
+const HEATER: &str = "window(10).
 step(5).
 input up.
 input hot.
@@ -49,7 +49,8 @@ terminatedAt(heat=true) :- happensAt(cold).
 holdsFor(idle=true) :- relative_complement_all(on=true, [heat=true]).
 ";
 
-const D: &str = "window(10).
+// Two fluents that depend on each other, which no check here refuses.
+const CYCLE: &str = "window(10).
 step(5).
 input up.
 simple a [true].
@@ -58,7 +59,7 @@ initiatedAt(a=true) :- happensAt(up), holdsAt(b=true).
 initiatedAt(b=true) :- happensAt(up), holdsAt(a=true).
 ";
 
-const E: &str = "window(10).
+const MEETING: &str = "window(10).
 step(5).
 domain v [x].
 input near(v, v).
@@ -92,75 +93,75 @@ fn checked(alloc: Global, start: &str, end: &str) -> Result<Result<Checked, Decl
 fn plans_and_declarations_are_tested(rt: HostRuntime) -> Result<(), Fail> {
     let bad_plan = Some(DeclRefused::BadPlan);
     let cases = [
-        (A_NAMES, A_RULES, None),
+        (LAMP_NAMES, LAMP_RULES, None),
         // The plan.
         ("step(5).\n", "input up.", bad_plan),
         ("window(10).\n", "input up.", bad_plan),
         ("window(10).\nstep(11).", "input up.", bad_plan),
         ("window(10).\nstep(0).", "input up.", bad_plan),
         ("window(10).\nstep(10).", "input up.", None),
-        (A_PLAN, "step(5).", bad_plan),
-        (A_PLAN, "window(10).", bad_plan),
-        (A_PLAN, "from(0).", bad_plan),
-        (A_PLAN, "queries(1). queries(1).", bad_plan),
-        (A_PLAN, "queries(0).", bad_plan),
-        (A_PLAN, "queries(1025).", bad_plan),
-        (A_PLAN, "queries(1024).", None),
+        (LAMP_PLAN, "step(5).", bad_plan),
+        (LAMP_PLAN, "window(10).", bad_plan),
+        (LAMP_PLAN, "from(0).", bad_plan),
+        (LAMP_PLAN, "queries(1). queries(1).", bad_plan),
+        (LAMP_PLAN, "queries(0).", bad_plan),
+        (LAMP_PLAN, "queries(1025).", bad_plan),
+        (LAMP_PLAN, "queries(1024).", None),
         ("window(1000000000000). ", "step(1000000000000).", None),
         ("window(1000000000001). ", "step(1).", bad_plan),
         ("window(2). step(2). ", "from(4000000000000000).", None),
         ("window(2). step(2). ", "from(4000000000000001).", bad_plan),
         // Declarations.
-        (A_PLAN, "input up(v, v, v).\ndomain v [].", None),
+        (LAMP_PLAN, "input up(v, v, v).\ndomain v [].", None),
         (
-            A_PLAN,
+            LAMP_PLAN,
             "input up(v, v, v, v).\ndomain v [].",
             Some(DeclRefused::TooMany { line: 4 }),
         ),
         (
-            A_PLAN,
+            LAMP_PLAN,
             "derived up(w).\ninput w.",
             Some(DeclRefused::Undeclared { line: 4 }),
         ),
         (
-            A_PLAN,
+            LAMP_PLAN,
             "input up.\ndomain up [].",
             Some(DeclRefused::Twice { line: 5 }),
         ),
         (
-            A_PLAN,
+            LAMP_PLAN,
             "domain up [].\n\nstatic up [true].",
             Some(DeclRefused::Twice { line: 6 }),
         ),
         (
-            A_PLAN,
+            LAMP_PLAN,
             "domain v [a, b, a].",
             Some(DeclRefused::Twice { line: 4 }),
         ),
         (
-            A_PLAN,
+            LAMP_PLAN,
             "input up.\ninput down.\nsimple on [true, true].",
             Some(DeclRefused::Twice { line: 6 }),
         ),
         // Two faults: the plan comes first, then in a declaration what it has too many of, then the first declaration.
         ("window(10).\n", "simple on [true, true].", bad_plan),
         (
-            A_PLAN,
+            LAMP_PLAN,
             "input up(u, u, u, u).",
             Some(DeclRefused::TooMany { line: 4 }),
         ),
         (
-            A_PLAN,
+            LAMP_PLAN,
             "simple on(u) [true, true].",
             Some(DeclRefused::Undeclared { line: 4 }),
         ),
         (
-            A_PLAN,
+            LAMP_PLAN,
             "simple on [true, true].\ninput up(u, u, u, u).",
             Some(DeclRefused::Twice { line: 4 }),
         ),
         (
-            A_PLAN,
+            LAMP_PLAN,
             "initially(off=true).\nsimple on [true, true].",
             Some(DeclRefused::Twice { line: 5 }),
         ),
@@ -176,37 +177,37 @@ fn plans_and_declarations_are_tested(rt: HostRuntime) -> Result<(), Fail> {
 fn rules_over_samples_are_tested(rt: HostRuntime) -> Result<(), Fail> {
     let cases = [
         (
-            A_NAMES,
+            LAMP_NAMES,
             "initiatedAt(off=true) :- happensAt(up).",
             Some(DeclRefused::Undeclared { line: 7 }),
         ),
         (
-            A_NAMES,
+            LAMP_NAMES,
             "initiatedAt(on=false) :- happensAt(up).",
             Some(DeclRefused::Undeclared { line: 7 }),
         ),
         (
-            A_NAMES,
+            LAMP_NAMES,
             "initiatedAt(on=true) :- holdsAt(on=true).",
             Some(DeclRefused::NoTrigger { line: 7 }),
         ),
         (
-            A_NAMES,
+            LAMP_NAMES,
             "initiatedAt(on=true) :- happensAt(on).",
             Some(DeclRefused::WrongKind { line: 7 }),
         ),
         (
-            A_NAMES,
+            LAMP_NAMES,
             "initiatedAt(on=true) :- happensAt(up(X)).",
             Some(DeclRefused::Arity { line: 7 }),
         ),
         (
-            E,
+            MEETING,
             "initiatedAt(met(X, X)=true) :- happensAt(near(X, X)), X \\= Z.",
             Some(DeclRefused::Loose { line: 7 }),
         ),
         (
-            E,
+            MEETING,
             "domain u [x].\ninput far(u).\ninitiatedAt(met(X, X)=true) :- happensAt(near(X, X)), not happensAt(far(X)).",
             Some(DeclRefused::Clash { line: 9 }),
         ),
@@ -343,7 +344,7 @@ fn repeated(
 
 // A plan on three lines, and 64 domains, one a line.
 fn sixty_four_domains(alloc: Global) -> Result<String, Fail> {
-    let mut text = String::from_str(alloc, A_PLAN)?;
+    let mut text = String::from_str(alloc, LAMP_PLAN)?;
     let mut name = String::new(alloc);
     for _ in 0..64 {
         name.push_str("d")?;
@@ -370,14 +371,14 @@ fn lists_have_most_members(rt: HostRuntime) -> Result<(), Fail> {
     let too_many = Some(DeclRefused::TooMany { line: 4 });
     let twice = Some(DeclRefused::Twice { line: 4 });
     let cases = [
-        (A_PLAN, "domain v [x", ", x", 4095, "].", twice),
-        (A_PLAN, "domain v [x", ", x", 4096, "].", too_many),
-        (A_PLAN, "simple on [x", ", x", 63, "].", twice),
-        (A_PLAN, "simple on [x", ", x", 64, "].", too_many),
-        (A_PLAN, "static on [x", ", x", 63, "].", twice),
-        (A_PLAN, "static on [x", ", x", 64, "].", too_many),
+        (LAMP_PLAN, "domain v [x", ", x", 4095, "].", twice),
+        (LAMP_PLAN, "domain v [x", ", x", 4096, "].", too_many),
+        (LAMP_PLAN, "simple on [x", ", x", 63, "].", twice),
+        (LAMP_PLAN, "simple on [x", ", x", 64, "].", too_many),
+        (LAMP_PLAN, "static on [x", ", x", 63, "].", twice),
+        (LAMP_PLAN, "static on [x", ", x", 64, "].", too_many),
         (
-            A_NAMES,
+            LAMP_NAMES,
             "initiatedAt(on=true) :- happensAt(up)",
             ", holdsAt(on=true)",
             7,
@@ -385,7 +386,7 @@ fn lists_have_most_members(rt: HostRuntime) -> Result<(), Fail> {
             None,
         ),
         (
-            A_NAMES,
+            LAMP_NAMES,
             "initiatedAt(on=true) :- happensAt(up)",
             ", holdsAt(on=true)",
             8,
@@ -393,7 +394,7 @@ fn lists_have_most_members(rt: HostRuntime) -> Result<(), Fail> {
             Some(DeclRefused::TooMany { line: 7 }),
         ),
         (
-            A_NAMES,
+            LAMP_NAMES,
             "static idle [true].\nholdsFor(idle=true) :- union_all([on=true",
             ", on=true",
             63,
@@ -401,7 +402,7 @@ fn lists_have_most_members(rt: HostRuntime) -> Result<(), Fail> {
             None,
         ),
         (
-            A_NAMES,
+            LAMP_NAMES,
             "static idle [true].\nholdsFor(idle=true) :- union_all([on=true",
             ", on=true",
             64,
@@ -421,12 +422,12 @@ fn lists_have_most_members(rt: HostRuntime) -> Result<(), Fail> {
 fn descriptions_say_what_they_declare(rt: HostRuntime) -> Result<(), Fail> {
     // Start and end, the numbers of the plan, and how many domains, names and rules there are.
     let cases = [
-        (A_NAMES, A_RULES, (10, 5, 0, 1024), (0, 3, 2)),
-        (A_NAMES, "queries(7).", (10, 5, 0, 7), (0, 3, 0)),
-        (B, "", (10, 5, 0, 1024), (0, 3, 2)),
-        (C, "", (10, 5, 0, 1024), (0, 6, 4)),
-        (D, "", (10, 5, 0, 1024), (0, 3, 2)),
-        (E, "from(9).", (10, 5, 9, 1024), (1, 2, 1)),
+        (LAMP_NAMES, LAMP_RULES, (10, 5, 0, 1024), (0, 3, 2)),
+        (LAMP_NAMES, "queries(7).", (10, 5, 0, 7), (0, 3, 0)),
+        (GEAR, "", (10, 5, 0, 1024), (0, 3, 2)),
+        (HEATER, "", (10, 5, 0, 1024), (0, 6, 4)),
+        (CYCLE, "", (10, 5, 0, 1024), (0, 3, 2)),
+        (MEETING, "from(9).", (10, 5, 9, 1024), (1, 2, 1)),
     ];
     for (start, end, plan, counts) in cases {
         let found = checked(rt.alloc(), start, end)??;
@@ -446,7 +447,7 @@ fn descriptions_say_what_they_declare(rt: HostRuntime) -> Result<(), Fail> {
 #[test]
 fn what_is_declared_is_known(rt: HostRuntime) -> Result<(), Fail> {
     let alloc = rt.alloc();
-    let found = checked(alloc, E, "")??;
+    let found = checked(alloc, MEETING, "")??;
     let known = Known::new(alloc, found.domains.as_slice(), found.names.as_slice())?;
     for (word, line, declared, entity) in [
         ("near", Some(4), true, false),
@@ -468,6 +469,48 @@ fn what_is_declared_is_known(rt: HostRuntime) -> Result<(), Fail> {
             "line {}",
             name.line
         );
+    }
+    Ok(())
+}
+
+// The domain ship has the entities s1 and s2, and quay has q1.
+#[test]
+fn entities_are_numbered(rt: HostRuntime) -> Result<(), Fail> {
+    let alloc = rt.alloc();
+    let found = checked(alloc, PORT, "")??;
+    let known = Known::new(alloc, found.domains.as_slice(), found.names.as_slice())?;
+    for (domain, word, number) in [
+        (0, "s1", Some(0)),
+        (0, "s2", Some(1)),
+        (1, "q1", Some(0)),
+        (0, "q1", None),
+        (2, "q1", None),
+    ] {
+        let word = Word::new(alloc, word)?;
+        assert_eq!(rt; known.entity(domain, &word), number, "{domain} {word:?}");
+    }
+    Ok(())
+}
+
+#[test]
+fn variables_stand_at_places_of_domains(rt: HostRuntime) -> Result<(), Fail> {
+    let alloc = rt.alloc();
+    let rule =
+        "happensAt(seen(S)) :- happensAt(lands(S, Q)), holdsAt(busy(q1)=true), not holdsAt(busy(Q)=true).";
+    let description = checked(alloc, PORT, rule)??;
+    let known = Known::new(
+        alloc,
+        description.domains.as_slice(),
+        description.names.as_slice(),
+    )?;
+    let wanted = [("S", 0), ("S", 0), ("Q", 1), ("Q", 1)];
+    for statement in description.rules.as_slice() {
+        let found = places(alloc, &known, &statement.form)?;
+        assert_eq!(rt; found.len(), wanted.len(), "{rule}");
+        for (place, (variable, domain)) in found.iter().zip(wanted) {
+            assert_eq!(rt; place.variable.as_str(), variable, "{rule}");
+            assert_eq!(rt; place.domain, domain, "{rule}");
+        }
     }
     Ok(())
 }

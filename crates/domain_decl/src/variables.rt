@@ -4,18 +4,21 @@ ghost use Rattle.std.specs.List.{list_any};
 ghost use Rattle.rule_read.specs.Forms.{plain_form};
 ghost use Rattle.domain_decl.specs.Lists.{has};
 ghost use Rattle.domain_decl.specs.Mentions.{body_mentions, head_of, conditions_of, leaves_of, mentions, variable_in, variables};
-ghost use Rattle.domain_decl.specs.Rules.{declaration, variable_at, places_by, clash, compared, has_loose_variable};
+ghost use Rattle.domain_decl.specs.Rules.{declaration, variable_at, places_by, places, clash, compared, has_loose_variable};
 ghost use Rattle.domain_decl.specs.Gathered.{mention_of, mentions_of, place_of, places_of, is_variable, is_loose};
 
 use crate::known::Known;
-use crate::mentions::{Mention, conditions_of};
+use crate::mentions::{Mention, conditions_of, gather};
 use rt_base::{OutOfMemory, Word};
 use rule_read::{Atom, Body, Form, Term};
+use std::alloc::Global;
 
 /// A variable at a place of a domain, which is told by its number.
 #[derive(Clone, Copy, Debug)]
-pub(crate) struct Place<'a> {
+pub struct Place<'a> {
+    /// The word of the variable.
     pub variable: &'a Word,
+    /// The number of the domain, counted from 0 in declared order.
     pub domain: u32,
 }
 
@@ -70,6 +73,22 @@ pub(crate) fn gather_places<'a>(
         add_places(known, mention.atom, into)?;
     }
     Ok(())
+}
+
+/// The variables at all places of a statement's atoms, in the order of the text, each with the number of its place's
+/// domain.
+pub fn places<'a>(
+    alloc: Global,
+    known: &Known,
+    form: &'a Form,
+) -> Result<Vec<Place<'a>>, OutOfMemory>
+    ensures { IfOk result (λ found. places_of found.items ≡ places known.now.names.now (plain_form form.now)) }
+{
+    let mut atoms = Vec::new(alloc);
+    gather(form, &mut atoms)?;
+    let mut found = Vec::new(alloc);
+    gather_places(known, &atoms, &mut found)?;
+    Ok(found)
 }
 
 // It is the same variable at a place of another domain.

@@ -127,22 +127,27 @@ abbrev pub argument_lists : List ℕ → List (List ℕ)
 argument_lists [] = [] ∷ []
 argument_lists (size ∷ sizes) = flat_map (λ entity. map (λ rest. entity ∷ rest) (argument_lists sizes)) (range_with_len 0 size)
 
-abbrev pub arguments_of : Program → Name → List (List ℕ)
-arguments_of program name = argument_lists (map (λ domain. entity_count (slice_get program.domains domain)) name.args)
+-- the sizes of the domains of these numbers
+abbrev pub domain_sizes : List Domain → List ℕ → List ℕ
+domain_sizes domains numbers = map (λ d. entity_count (slice_get domains d)) numbers
+
+-- all arguments of a name, in order
+abbrev pub arguments_of : List Domain → Name → List (List ℕ)
+arguments_of domains name = argument_lists (domain_sizes domains name.args)
 
 -- the ground names that are units: by the declaration of the name, then by arguments
 abbrev pub unit_heads : Program → List (ℕ × Name) → List (ℕ × List ℕ)
 unit_heads program [] = []
 unit_heads program (name ∷ rest) =
-    (if is_input name.1.kind then [] else map (λ args. (name.0, args)) (arguments_of program name.1)) ++ unit_heads program rest
+    (if is_input name.1.kind then [] else map (λ args. (name.0, args)) (arguments_of program.domains name.1)) ++ unit_heads program rest
 
 -- each name begins where the names of its kind before it end, and the events end with their count
 abbrev pub are_numbered : Program → ℕ → ℕ → List Name → Bool
 are_numbered program event unit [] = event == program.events
 are_numbered program event unit (name ∷ rest) =
     if is_input name.kind
-    then (name.first == event) && are_numbered program (event + length (arguments_of program name)) unit rest
-    else ((name.first == unit) && are_numbered program event (unit + length (arguments_of program name)) rest)
+    then (name.first == event) && are_numbered program (event + length (arguments_of program.domains name)) unit rest
+    else ((name.first == unit) && are_numbered program event (unit + length (arguments_of program.domains name)) rest)
 
 -- no word stands twice
 abbrev pub is_distinct : List (List ℕ) → Bool

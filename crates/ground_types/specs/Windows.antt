@@ -18,7 +18,8 @@ IsEventPoint plan k t = (left plan k < t) × (t ≤ right plan k)
 abbrev pub IsValuePoint : Plan → ℕ → ℕ → Type 0
 IsValuePoint plan k t = (left plan k < t) × (t ≤ right plan k + 1)
 
--- windows overlap or touch, and the left border after the last query is at most 5,024,000,000,000,000
+-- Windows overlap or touch; a window is at most 1,000,000,000,000 long, there are at most 1,024 queries, and the left border
+-- after the last query is at most 5,024,000,000,000,000.
 pub record IsSoundPlan (plan : Plan) : Type 0 where
   pub step_some : 1 ≤ plan.step
   pub step_most : plan.step ≤ plan.window

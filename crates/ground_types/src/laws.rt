@@ -44,14 +44,14 @@ pub fn inertia_law()
         ≡ next_value (value_at opening initiated terminated w t) (initiated t) (terminated t) }
 {}
 
-/// Layer after layer gives a table in which everything is as the definitions of truth, fluents and events say, in one
-/// window and over all points.
+/// Where the layers of a program are in order, layer after layer gives a table in which everything is as the definitions
+/// of truth, fluents and events say, in one window and over all points.
 pub fn recognition_is_meaning()
     ensures { (program : Program) (opening : ℕ → Option ℕ) (occurs : ℕ → ℕ → Bool) (w : ℕ) → IsLayered program →
         IsMeaning program opening occurs w (all_layers program opening occurs w) }
 {}
 
-/// There is no other such table.
+/// Where the layers of a program are in order, there is no other such table.
 pub fn meaning_is_unique()
     ensures { (program : Program) (opening : ℕ → Option ℕ) (occurs : ℕ → ℕ → Bool) (w : ℕ) (one two : Table) → IsLayered program →
         IsMeaning program opening occurs w one → IsMeaning program opening occurs w two → SaysTheSame one two }

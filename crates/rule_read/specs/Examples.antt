@@ -26,7 +26,7 @@ same_reserved = refl
 abbrev word : List ℕ → Token
 word letters = Word letters
 
--- a comment may hold any byte, a colon without a dash is a stray mark, and ? may not stand there
+-- a comment may hold any byte, a colon without a dash is a stray mark, and a question mark may not stand there
 abbrev three_lines : List ℕ
 three_lines = codes "input up % ?" ++ (10 ∷ codes ": ?" ++ (10 ∷ codes "down.on"))
 

@@ -136,7 +136,7 @@ impl<'a> Lexer<'a> {
         }
     }
 
-    /// The tokens of the next statement, how it ends, and the line of its first token.
+    /// The tokens of the next statement, how it ends, and the line of its first token, or of the byte where it is Bad.
     #[tactic(auto, using(crate::proofs::Sentences::one_more_token), unfolding(crate::specs::Sentences::sentences, crate::specs::Sentences::first_bad))]
     pub(crate) fn statement(
         &mut self,

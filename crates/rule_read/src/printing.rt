@@ -189,7 +189,7 @@ fn print_forms(alloc: Global, statements: &[Statement]) -> Result<Vec<u8>, OutOf
 
 /// The canonical text of a description: each statement on a line of its own, a space behind a comma and `not`, on each
 /// side of `:-` and `\=`, and before the `[` of a declaration, and nowhere else. Where it has at most 1,048,576 bytes,
-/// reading it gives the same forms, each on its line. The source is our own.
+/// reading it gives the same forms, each on its line. The form is this project's own.
 pub fn print(alloc: Global, syntax: &Syntax) -> Result<String, OutOfMemory>
     requires { IsSound syntax.now }
     ensures canonical { IfOk result (λ text. string_bytes text ≡ text_of (map (λ s. plain_form s.form) syntax.now.statements)) }

@@ -66,7 +66,7 @@ fn statements_of(alloc: Global, text: &[u8]) -> Result<Vec<Statement>, ReadRefus
 ///
 /// TooLong comes exactly where the text has more than 1,048,576 bytes; else BadByte exactly where a byte outside
 /// comments is not permitted, with the line of the first; else BadStatement exactly where a statement has no form, with
-/// the line where the first such statement begins. The source is our own.
+/// the line where the first such statement begins. The language is this project's own.
 #[tactic(auto, using(crate::proofs::Wholes::reads_too_long, crate::proofs::Wholes::reads_statements, crate::proofs::Wholes::reads_refused, crate::proofs::Spelled::stated_spelled, crate::proofs::Spelled::stated_unformed))]
 pub fn read(alloc: Global, text: &[u8]) -> Result<Syntax, ReadRefused>
     ensures exact { Answers result (reading text.now) }

@@ -3,13 +3,13 @@ ghost use Rattle.std.specs.Prelude.{◌≡◌, ◌++◌, ◌∷◌, [], true, le
 ghost use Rattle.ground_types.specs.Sound.{is_distinct};
 ghost use Rattle.rule_read.specs.Forms.{plain, plain_form, plain_tree};
 ghost use Rattle.domain_decl.specs.Contents.{name_words};
-ghost use Rattle.domain_decl.specs.Mentions.{body_mentions, event_mention, leaves, head_of, conditions_of, leaves_of};
+ghost use Rattle.domain_decl.specs.Mentions.{body_mentions, leaves, head_of, leaves_of};
 ghost use Rattle.strata_check.specs.Rows.{mention_places, body_places, with_rule, atom_places, AreRows};
 
 use crate::row::Row;
-use domain_decl::Known;
+use domain_decl::{Known, atom_of, conditions_of};
 use rt_base::OutOfMemory;
-use rule_read::{Atom, Body, EventText, Form, Statement, Tree};
+use rule_read::{Atom, Body, Form, Statement, Tree};
 use std::alloc::Global;
 
 // Adds the place of the name of an atom.
@@ -22,22 +22,12 @@ fn add_atom(known: &Known, atom: &Atom, row: &mut Row) -> Result<(), OutOfMemory
     Ok(())
 }
 
-fn event_atom(event: &EventText) -> &Atom
-    ensures { result.now ≡ (event_mention event.now).atom }
-{
-    match event {
-        EventText::Plain(atom) => atom,
-        EventText::Start(fv) => &fv.atom,
-        EventText::End(fv) => &fv.atom,
-    }
-}
-
 // Adds the place of the name in a condition, which `\=` has not.
 fn add_condition(known: &Known, body: &Body, row: &mut Row) -> Result<(), OutOfMemory>
     ensures { IfOk result (λ _. row.new ≡ row.old ++ mention_places known.now.names.now (body_mentions body.now)) }
 {
     match body {
-        Body::Happens { event, .. } => add_atom(known, event_atom(event), row)?,
+        Body::Happens { event, .. } => add_atom(known, atom_of(event), row)?,
         Body::Holds { fv, .. } => add_atom(known, &fv.atom, row)?,
         Body::Unequal(..) => {}
     }
@@ -91,18 +81,6 @@ fn head_place(known: &Known, form: &Form) -> Option<usize>
         Form::Happens(atom, _) => known.place(&atom.name),
         Form::HoldsFor(fv, _) => known.place(&fv.atom.name),
         _ => None,
-    }
-}
-
-// The conditions of a rule, none where a statement has none.
-fn conditions_of(form: &Form) -> &[Body]
-    ensures { result.now ≡ conditions_of (plain_form form.now) }
-{
-    match form {
-        Form::Initiated(_, bodies) => bodies.as_slice(),
-        Form::Terminated(_, bodies) => bodies.as_slice(),
-        Form::Happens(_, bodies) => bodies.as_slice(),
-        _ => &[],
     }
 }
 

@@ -1,18 +1,18 @@
 use Rattle.std.proofs.Common.{◌≡◌, take, subst, arith}
 use Rattle.std.proofs.lemmas.Grind.{common_steps}
-use Rattle.domain_decl.specs.Known.{HaveSame}
+use Rattle.domain_decl.specs.Known.{IsSetOf}
 use Rattle.std.specs.List.{AllZip}
 use Rattle.std.proofs.lemmas.List.{take_more}
 use Rattle.std.proofs.lemmas.Slice.Zip.{all_zipped_more}
-use Rattle.domain_decl.proofs.LookUps.{IsSetOf, sets_by_place}
+use Rattle.domain_decl.proofs.LookUps.{IsOfDomain, sets_by_place}
 use Rattle.domain_decl.proofs.known.entities_of.Goals as goal
 
 pub loop-domain-preserved : goal.loop-domain-preserved
 loop-domain-preserved c =
     rw (c.in_ok-push.ensures.items, take_more c.args.domains.now c.loop-domain.domain-index c.domain-item.result c.loop-domain-test.true, ← c.domain-item.is)
-    (all_zipped_more IsSetOf _ _ _ c.domain-item.result c.loop-domain.invariant (subst (HaveSame c.in_ok-set_of.field-0) c.as_slice.ensures c.in_ok-set_of.ensures))
+    (all_zipped_more IsOfDomain _ _ _ c.domain-item.result c.loop-domain.invariant (subst (IsSetOf c.in_ok-set_of.field-0) c.as_slice.ensures c.in_ok-set_of.ensures))
 
 pub returns : goal.returns
 returns c =
     let all : take c.loop-domain.domain-index c.args.domains.now ≡ c.args.domains.now = grind (arith, common_steps) in
-    sets_by_place c.loop-domain.sets.items c.args.domains.now (subst (AllZip IsSetOf c.loop-domain.sets.items) all c.loop-domain.invariant)
+    sets_by_place c.loop-domain.sets.items c.args.domains.now (subst (AllZip IsOfDomain c.loop-domain.sets.items) all c.loop-domain.invariant)
