@@ -1,0 +1,15 @@
+pub mod Numbers
+pub mod Assignments
+pub mod Counted
+pub mod Declarations
+pub mod Clauses
+pub mod Origins
+pub mod Atoms
+pub mod Grounded
+pub mod Limits
+pub mod Tests
+pub mod Answers
+pub mod Found
+pub mod Noted
+pub mod Reached
+pub mod Examples

@@ -1,0 +1,17 @@
+-- What contracts see of words that are not kept.
+use Rattle.std.specs.Prelude.{ℕ, List, [], ◌∷◌, ◌++◌}
+use Rattle.ground_rules.specs.Found.{Asked}
+use Rattle.ground_rules.specs.declared.finder.Letter.{Letter}
+use Rattle.ground_rules.specs.declared.finder.Letter.TheVariants as letter
+use Rattle.ground_rules.specs.declared.finder.Part.{Part}
+use Rattle.ground_rules.specs.declared.finder.Part.TheVariants as part
+
+-- a word, from its beginning on
+abbrev pub spelled : Letter → List ℕ
+spelled letter.Nothing = []
+spelled (letter.Further before last) = before.value ++ last ∷ []
+
+-- a name and the arguments so far
+abbrev pub asked : Part → Asked
+asked (part.Name program word) = record { program = program.value; word = word.value; args = [] }
+asked (part.Argument before word) = record { program = before.value.program; word = before.value.word; args = before.value.args ++ word.value ∷ [] }
