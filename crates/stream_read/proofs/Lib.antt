@@ -1,0 +1,4 @@
+pub mod FieldPlaces
+pub mod Powers
+pub mod RowsLeft
+pub mod ScriptSteps

@@ -1,0 +1,6 @@
+pub mod Fields
+pub mod Gathering
+pub mod Left
+pub mod Records
+pub mod Scripts
+pub mod Examples

@@ -1,0 +1,18 @@
+//! Scripts: the records of CSV texts as commands for a program.
+//! Its promise: `commands` gives exactly the commands of the records and the count of the ignored ones, and refuses exactly
+//! where a record has no form or there are too many (want of memory aside). Records are what the crate `csv` says. It
+//! stands on `csv`, on `ground_rules` and on what that stands on.
+#![tactic(auto)]
+
+mod fields;
+mod reading;
+mod records;
+mod rows;
+mod script;
+mod verbs;
+
+pub use reading::commands;
+pub use script::{Placed, Script, Shape, StreamRefused};
+
+#[cfg(test)]
+mod tests;
