@@ -24,7 +24,7 @@ mod tree_printer;
 
 pub use form::{Atom, Body, Decl, EventText, Form, Fv, Term, Tree};
 pub use laws::{meaning_is_read, one_form, one_reading, reading_means};
-pub use printing::print;
+pub use printing::{print, put_form};
 pub use syntax::{ReadRefused, Statement, Syntax};
 pub use text::read;
 

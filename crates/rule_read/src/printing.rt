@@ -176,6 +176,15 @@ fn print_form<'a>(
     }
 }
 
+/// Adds the canonical line of what a statement says, its end with it, to the end of a text: the line that `print` has for
+/// it. Where memory runs out, the text keeps what it had, and may have a part of the line behind it.
+pub fn put_form(alloc: Global, out: &mut Vec<u8>, form: &Form) -> Result<(), OutOfMemory>
+    ensures { OnOk result (out.new.items ≡ out.old.items ++ line_of (form_tokens (plain_form form.now))) }
+{
+    let mut line = Vec::new(alloc);
+    print_form(alloc, out, &mut line, form)
+}
+
 fn print_forms(alloc: Global, statements: &[Statement]) -> Result<Vec<u8>, OutOfMemory>
     ensures { IfOk result (λ out. out.items ≡ text_of (map (λ s. plain_form s.form) statements.now)) }
 {

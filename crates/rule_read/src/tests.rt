@@ -1,6 +1,7 @@
 // Texts that are read, refused, printed and copied.
 use crate::{
-    ReadRefused, Statement, meaning_is_read, one_form, one_reading, print, read, reading_means,
+    ReadRefused, Statement, meaning_is_read, one_form, one_reading, print, put_form, read,
+    reading_means,
 };
 use std::alloc::Global;
 use std::test::Fail;
@@ -207,6 +208,21 @@ fn canonical_texts_are_printed_as_they_stand(rt: HostRuntime) -> Result<(), Fail
     vessels.push_str(VESSEL_RULES)?;
     let found = printed(alloc, vessels.as_str())?;
     assert_eq!(rt; found.as_str(), vessels.as_str(), "vessels");
+    Ok(())
+}
+
+#[test]
+fn a_line_is_put_behind_what_there_is(rt: HostRuntime) -> Result<(), Fail> {
+    let alloc = rt.alloc();
+    let syntax = read(alloc, b"input up. simple on(v)[true,low].")?;
+    let mut out = b"  ".to_vec(alloc)?;
+    for statement in syntax.statements.as_slice() {
+        put_form(alloc, &mut out, &statement.form)?;
+    }
+    assert_eq!(rt;
+        out.as_slice(),
+        b"  input up.\nsimple on(v) [true, low].\n".as_slice()
+    );
     Ok(())
 }
 
