@@ -26,7 +26,9 @@ mod Ranks
 mod DeclaredSizes
 mod ArgumentRanks
 mod ExpressionMembers
-mod SmallNumbers
+mod StatedExpressions
+pub mod SmallNumbers
+mod InputEvents
 mod Led
 mod CountedInstances
 mod CountedClauses
@@ -38,3 +40,4 @@ mod PlainMembers
 mod UnitsBelow
 mod Tested
 mod NumberedNames
+mod ListedInstances

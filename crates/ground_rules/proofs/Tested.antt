@@ -24,3 +24,13 @@ within_by false count most limit tests e none = (ltb-false most count e, none)
 -- a count whose test passed is within its limit
 pub first_within : (count most : ℕ) (limit : Limit) (tests : List (ℕ × ℕ × Limit)) → first_exceeded ((count, most, limit) ∷ tests) ≡ None → (count ≤ most) × (first_exceeded tests ≡ None)
 first_within count most limit tests none = within_by (ltb most count) count most limit tests refl none
+
+both_by : (over : Bool) (limit : Limit) (tests others : List (ℕ × ℕ × Limit)) → (first_exceeded (tests ++ others) ≡ None → (first_exceeded tests ≡ None) × (first_exceeded others ≡ None))
+    → (if over then Some limit else first_exceeded (tests ++ others)) ≡ None → ((if over then Some limit else first_exceeded tests) ≡ None) × (first_exceeded others ≡ None)
+both_by true limit tests others rest none = absurd (none-some limit (sym none))
+both_by false limit tests others rest none = rest none
+
+-- where none of all tests is exceeded, none of the first and none of the others is
+pub both_within : (tests others : List (ℕ × ℕ × Limit)) → first_exceeded (tests ++ others) ≡ None → (first_exceeded tests ≡ None) × (first_exceeded others ≡ None)
+both_within [] others none = (refl, none)
+both_within ((count, most, limit) ∷ tests) others none = both_by (ltb most count) limit tests others (both_within tests others) none

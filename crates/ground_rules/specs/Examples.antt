@@ -6,6 +6,7 @@ use Rattle.ground_types.specs.declared.program.Domain.{Domain}
 use Rattle.ground_types.specs.declared.program.Name.{Name}
 use Rattle.ground_types.specs.declared.program.NameKind.{NameKind}
 use Rattle.ground_types.specs.declared.program.NameKind.TheVariants as name_kind
+use Rattle.ground_types.specs.declared.program.Program.{Program}
 use Rattle.ground_types.specs.declared.program.Rule.{Rule}
 use Rattle.ground_types.specs.declared.program.Trigger.TheVariants as trigger
 use Rattle.ground_types.specs.declared.program.What.TheVariants as what
@@ -22,6 +23,8 @@ use Rattle.ground_rules.specs.Numbers.{numbered, number_of}
 use Rattle.ground_rules.specs.Assignments.{Clause, Instance, variables_of, assignments, instances}
 use Rattle.ground_rules.specs.Atoms.{head_unit}
 use Rattle.ground_rules.specs.Grounded.{PlainUnit, Derived_is, initiation_by, occurrence_by, opening_of, layers_of, event_count, clauses}
+use Rattle.ground_rules.specs.Stated.{stated as said}
+use Rattle.ground_rules.specs.EventAtoms.{event_atoms}
 use Rattle.ground_rules.specs.Limits.{unit_count, row_count, assignment_count, rule_count, condition_count, first_exceeded, exceeded}
 
 -- domain ship [x, y]. domain port [y, z, x].
@@ -101,9 +104,27 @@ its_body : ◌≡◌ {A = ℕ × Option Rule} (head_unit second_meeting, occurre
     (6, Some (record { value = 0; trigger = trigger.Start 1 1; conds = record { positive = false; what = what.Holds 4 1 } ∷ [] }))
 its_body = refl
 
+-- in words: happensAt(meets(x, x)) :- happensAt(start(within(x, z)=yes)), not holdsAt(within(y, z)=yes).
+its_words : said second_meeting
+    ≡ Happens (atom (codes "meets") (term.Entity (codes "x") ∷ term.Entity (codes "x") ∷ []))
+    (body.Happens true (event.Start (within (term.Entity (codes "x") ∷ term.Entity (codes "z") ∷ [])))
+    ∷ body.Holds false (within (term.Entity (codes "y") ∷ term.Entity (codes "z") ∷ []))
+    ∷ [])
+its_words = refl
+
 -- the number of an event is arithmetic on its arguments, and other arguments have none
 second_enters_third : map (λ name. number_of domains name (1 ∷ 2 ∷ [])) names ≡ Some 5 ∷ Some 5 ∷ None ∷ None ∷ []
 second_enters_third = refl
+
+abbrev program : Program
+program = record { plan = record { window = 10; step = 5; from = 0; queries = 1024 }; domains = domains; names = names; units = []; layers = []; events = 7 }
+
+-- the ground events by their numbers, as names and arguments
+its_event_atoms : map {B = List ℕ × List ℕ} (λ event. (event.0.word, event.1)) (event_atoms program)
+    ≡ (codes "enters", 0 ∷ 0 ∷ []) ∷ (codes "enters", 0 ∷ 1 ∷ []) ∷ (codes "enters", 0 ∷ 2 ∷ [])
+    ∷ (codes "enters", 1 ∷ 0 ∷ []) ∷ (codes "enters", 1 ∷ 1 ∷ []) ∷ (codes "enters", 1 ∷ 2 ∷ [])
+    ∷ (codes "bell", []) ∷ []
+its_event_atoms = refl
 
 -- ---- opening values: the first declared of those that are given, in whatever order
 

@@ -6,9 +6,12 @@ pub mod Clauses
 pub mod Origins
 pub mod Atoms
 pub mod Grounded
+pub mod Stated
+pub mod EventAtoms
 pub mod Limits
 pub mod Tests
 pub mod Answers
+pub mod Listed
 pub mod Found
 pub mod Noted
 pub mod Reached

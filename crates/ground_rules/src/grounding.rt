@@ -26,8 +26,8 @@ use rule_read::Statement;
 use std::alloc::Global;
 use strata_check::LayerList;
 
-// Statements over declarations, each with its variables.
-fn clauses_of<'k, 'a>(
+/// Statements over declarations, each with its variables.
+pub(crate) fn clauses_of<'k, 'a>(
     alloc: Global,
     known: &'k Known<'a>,
     rules: &'k [Statement],

@@ -75,8 +75,8 @@ impl<'i, 'k, 'a> Instance<'i, 'k, 'a> {
         }
     }
 
-    // The word of the entity that a variable stands for.
-    fn word(&self, variable: &Word) -> &str
+    /// The word of the entity that a variable stands for.
+    pub(crate) fn word(&self, variable: &Word) -> &str
         ensures { result.now ≡ word_of (instance_of self.now) variable.now }
     {
         let domains = self.clause.known().domains;

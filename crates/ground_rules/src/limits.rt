@@ -210,6 +210,15 @@ fn totals_of(alloc: Global, clauses: &[Clause]) -> Result<Totals, OutOfMemory>
     Ok(totals)
 }
 
+/// How many instances of rules and `holdsFor` statements the statements have.
+pub(crate) fn rule_count(alloc: Global, clauses: &[Clause]) -> Result<u64, OutOfMemory>
+    requires { assignment_count (map clause_of clauses.now) ≤ 1048576 }
+    ensures { IfOk result (λ count. count ≡ capped (rule_count (map clause_of clauses.now))) }
+{
+    let totals = totals_of(alloc, clauses)?;
+    Ok(totals.rules)
+}
+
 // Refuses what is more than the limit.
 fn test(count: u64, most: u64, limit: Limit) -> Result<(), GroundRefused>
     ensures { result ≡ (if nat_lt most count then Err (TooLarge limit) else Ok tt) }

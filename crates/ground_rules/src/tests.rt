@@ -1,15 +1,20 @@
-// Programs of whole descriptions, worked by hand; limits at their borders; and words that name events, fluents and values.
-ghost use Rattle.std.specs.Prelude.{IfSome, IfOk};
+// Programs of whole descriptions, worked by hand; limits at their borders; words that name events, fluents and values; and
+// the words of units and events.
+ghost use Rattle.std.specs.Prelude.{◌<◌, Ok, IfSome, IfOk};
 ghost use Rattle.ground_types.specs.Sound.{IsSound};
+ghost use Rattle.domain_decl.specs.Sound.{IsSound as IsSoundChecked};
+ghost use Rattle.domain_decl.specs.Accepted.{plain_checked};
+ghost use Rattle.ground_rules.specs.Answers.{Answers};
+ghost use Rattle.ground_rules.specs.Listed.{unit_bound};
 
-use crate::{Finder, GroundRefused, ground, value_of};
-use domain_decl::check;
+use crate::{Finder, GroundRefused, Instances, event_at, ground, value_of};
+use domain_decl::{Checked, Known, check};
 use ground_types::{Cond, Expr, Program, Rule, Trigger, UnitKind, What};
-use rt_base::Limit;
-use rule_read::read;
+use rt_base::{Limit, OutOfMemory};
+use rule_read::{put_form, read};
 use std::alloc::Global;
 use std::test::Fail;
-use strata_check::layers;
+use strata_check::{LayerList, layers};
 
 fn answer(alloc: Global, text: &str) -> Option<Result<Program, GroundRefused>>
     ensures { IfSome result (λ answer. IfOk answer IsSound) }
@@ -447,5 +452,90 @@ fn words_name_events_fluents_and_values(rt: HostRuntime) -> Result<(), Fail> {
     assert_eq!(rt; found(&program, &[b"none"]), (None, None));
     assert_eq!(rt; value_of(&program, 4, b"yes"), Some(1));
     assert_eq!(rt; value_of(&program, 6, b"blue"), None);
+    Ok(())
+}
+
+// ---- statements without variables, and events
+
+const NEAR: &str = "window(10). step(5).
+domain v [x, y].
+input near(v, v).
+simple met(v, v) [true].
+initiatedAt(met(X, Y)=true) :- happensAt(near(X, Y)), X \\= Y.";
+
+// The statements without variables that define a unit.
+fn lines_of(alloc: Global, listed: &Instances, unit: u32) -> Result<Vec<u8>, OutOfMemory>
+    requires { unit < unit_bound listed.now }
+{
+    let mut lines = Vec::new(alloc);
+    for place in 0..listed.count(unit) {
+        let form = listed.form_at(alloc, unit, place)?;
+        put_form(alloc, &mut lines, &form)?;
+    }
+    Ok(lines)
+}
+
+// How many rules a description has, and the statements without variables that define a unit; None where there is no unit
+// of this number.
+fn lines_over(
+    alloc: Global,
+    checked: &Checked,
+    list: &LayerList,
+    program: &Program,
+    unit: u32,
+) -> Result<Option<(u64, Vec<u8>)>, OutOfMemory>
+    requires sound { IsSoundChecked checked.now }
+    requires grounded { Answers (Ok program.now) (plain_checked checked.now) list.now.of_name }
+{
+    if unit as usize >= program.units.as_slice().len() {
+        return Ok(None);
+    }
+    let names = program.names.as_slice();
+    let known = Known::new(alloc, checked.domains.as_slice(), names)?;
+    let listed = Instances::new(alloc, &known, checked)?;
+    let lines = lines_of(alloc, &listed, unit)?;
+    Ok(Some((listed.rule_count(), lines)))
+}
+
+// The name of an event and the numbers of its arguments' entities.
+fn event_over(
+    alloc: Global,
+    checked: &Checked,
+    list: &LayerList,
+    program: &Program,
+    event: u32,
+) -> Result<String, Fail>
+    requires sound { IsSoundChecked checked.now }
+    requires grounded { Answers (Ok program.now) (plain_checked checked.now) list.now.of_name }
+    requires program { IsSound program.now }
+{
+    let mut args = Vec::new(alloc);
+    let Some(name) = event_at(alloc, program, event, &mut args)? else {
+        return Ok(String::from_str(alloc, "none")?);
+    };
+    let mut out = String::from_str(alloc, name.word.as_str())?;
+    put_numbers(alloc, &mut out, args.as_slice())?;
+    Ok(out)
+}
+
+#[test]
+fn units_and_events_are_told_in_words(rt: HostRuntime) -> Result<(), Fail> {
+    let alloc = rt.alloc();
+    let syntax = read(alloc, NEAR.as_bytes())?;
+    let checked = check(alloc, &syntax)?;
+    let list = layers(alloc, &checked)?;
+    let program = ground(alloc, &checked, &list)?;
+    let Some((rules, lines)) = lines_over(alloc, &checked, &list, &program, 1)? else {
+        return Err(Fail::new("no unit"));
+    };
+    assert_eq!(rt; rules, 2);
+    assert_eq!(rt;
+        lines.as_slice(),
+        b"initiatedAt(met(x, y)=true) :- happensAt(near(x, y)).\n".as_slice()
+    );
+    let second = event_over(alloc, &checked, &list, &program, 2)?;
+    assert_eq!(rt; second.as_str(), "near 1 0");
+    let fourth = event_over(alloc, &checked, &list, &program, 4)?;
+    assert_eq!(rt; fourth.as_str(), "none");
     Ok(())
 }

@@ -28,8 +28,8 @@ pub(crate) struct Origin {
     pub assignment: u32,
 }
 
-// The instance of an origin, with a list in which its assignment is made.
-fn enter<'i, 'k, 'a>(
+/// The instance of an origin, with a list in which its assignment is made.
+pub(crate) fn enter<'i, 'k, 'a>(
     clauses: &'i [Clause<'k, 'a>],
     origin: Origin,
     assignment: &'i mut Vec<u32>,
@@ -83,9 +83,9 @@ fn add_origins(
     Ok(())
 }
 
-// For each of so many units the permitted origins of the instances that have it as head, in the order of the text and then
-// of the assignments.
-fn origins_of(
+/// For each of so many units the permitted origins of the instances that have it as head, in the order of the text and then
+/// of the assignments.
+pub(crate) fn origins_of(
     alloc: Global,
     clauses: &[Clause],
     units: usize,
