@@ -1,6 +1,7 @@
 pub mod Fields
 pub mod Gathering
 pub mod Left
+pub mod Looked
 pub mod Records
 pub mod Scripts
 pub mod Examples

@@ -5,11 +5,13 @@
 #![tactic(auto)]
 
 mod fields;
+mod names;
 mod reading;
 mod records;
 mod rows;
 mod script;
 mod verbs;
+mod words;
 
 pub use reading::commands;
 pub use script::{Placed, Script, Shape, StreamRefused};

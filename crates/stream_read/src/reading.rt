@@ -4,6 +4,7 @@ ghost use Rattle.ground_types.specs.Sound.{IsSound};
 ghost use Rattle.stream_read.specs.Gathering.{added};
 ghost use Rattle.stream_read.specs.Scripts.{records_of, script_of, Answers, IsShape};
 
+use crate::names::Names;
 use crate::records::{Meaning, meaning_of};
 use crate::rows::{next_row, reader_of};
 use crate::script::{Placed, Script, Shape, StreamRefused};
@@ -75,6 +76,9 @@ impl Gathered {
 /// TooMany exactly where there is a further record. An `add` or `revoke` of its form that names no ground input event is
 /// counted and ignored; an `ask,holds` that names no ground fluent-value has no form. The program has to be sound, and the
 /// number of a feeder 1 to 8. The forms and the limit are this project's own.
+///
+/// Hash tables of the names and the entities are made once, and each word of a record is looked up in them once: as long as
+/// few words share a hash, the time is linear in the length of the text and in the numbers of names and entities.
 pub fn commands(
     alloc: Global,
     text: &[u8],
@@ -85,6 +89,7 @@ pub fn commands(
     requires shape { IsShape shape }
     ensures exact { Answers result (script_of program.now shape (records_of text.now)) }
 {
+    let names = Names::new(alloc, program)?;
     let mut reader = reader_of(alloc, text);
     let mut row = ByteRecord::new(alloc);
     let mut gathered = Gathered::new(alloc);
@@ -93,7 +98,7 @@ pub fn commands(
             return Ok(gathered.into_script());
         }
         let number = count + 1;
-        if !gathered.add(number, meaning_of(program, shape, &row))? {
+        if !gathered.add(number, meaning_of(&names, shape, &row))? {
             return Err(StreamRefused::BadRecord { number });
         }
     }

@@ -1,5 +1,5 @@
 // What a record says.
-ghost use Rattle.std.specs.Prelude.{◌≡◌, List, ℕ};
+ghost use Rattle.std.specs.Prelude.{◌≡◌};
 ghost use Rattle.csv.specs.Records.{fields_of};
 ghost use Rattle.ground_types.specs.Sound.{IsSound};
 ghost use Rattle.ground_rules.specs.Found.{event_named};
@@ -7,11 +7,12 @@ ghost use Rattle.stream_read.specs.Fields.{only_number};
 ghost use Rattle.stream_read.specs.Records.{fed, feed, feed_of_feeder, seal, ask_holds, ask_count, ask_block, ask, wait, after, or_no_form, meaning_by, meaning_of};
 
 use crate::fields::{Fields, feeder, number};
+use crate::names::Names;
 use crate::script::Shape;
 use crate::verbs::{Verb, verb_of};
 use csv::ByteRecord;
-use ground_rules::{Finder, value_of};
-use ground_types::{Act, Command, Program, Query};
+use ground_rules::value_of;
+use ground_types::{Act, Command, Query};
 
 /// What a record says in a script.
 #[derive(Clone, Copy)]
@@ -86,31 +87,12 @@ fn after(fields: &mut Fields) -> Option<Command>
     Some(Command::After { feeder, count })
 }
 
-// The words of a name and of the fields that are left, on the way to what they name.
-fn finder_of(program: &Program, name: &[u8], fields: &mut Fields) -> Finder
-    requires { IsSound program.now }
-    ensures { result ≡ record { program = program.now; word = name.now; args = fields.old } }
-{
-    let mut finder = Finder::name(program, name);
-    while let Some(word) = fields.next() {
-        finder.push(program, word);
-    }
-    finder
-}
-
 // An act at a point on what a name and its arguments name.
-fn fed(
-    program: &Program,
-    feeder: u8,
-    act: Act,
-    at: u64,
-    name: &[u8],
-    fields: &mut Fields,
-) -> Meaning
-    requires { IsSound program.now }
-    ensures { result ≡ fed feeder act at (event_named (record { program = program.now; word = name.now; args = fields.old })) }
+fn fed(names: &Names, feeder: u8, act: Act, at: u64, name: &[u8], fields: &mut Fields) -> Meaning
+    requires { IsSound names.now.program.now }
+    ensures { result ≡ fed feeder act at (event_named (record { program = names.now.program.now; word = name.now; args = fields.old })) }
 {
-    match finder_of(program, name, fields).event(program) {
+    match names.event(name, fields) {
         Some(event) => Meaning::Means(Command::Feed {
             feeder,
             act,
@@ -122,9 +104,9 @@ fn fed(
 }
 
 // A point, a name that is not empty, and its arguments.
-fn feed(program: &Program, act: Act, feeder: u8, fields: &mut Fields) -> Meaning
-    requires { IsSound program.now }
-    ensures { result ≡ feed program.now act feeder fields.old }
+fn feed(names: &Names, act: Act, feeder: u8, fields: &mut Fields) -> Meaning
+    requires { IsSound names.now.program.now }
+    ensures { result ≡ feed names.now.program.now act feeder fields.old }
 {
     let Some(at) = fields.next() else {
         return Meaning::NoForm;
@@ -136,45 +118,45 @@ fn feed(program: &Program, act: Act, feeder: u8, fields: &mut Fields) -> Meaning
         return Meaning::NoForm;
     }
     match number(at) {
-        Some(at) => fed(program, feeder, act, at, name, fields),
+        Some(at) => fed(names, feeder, act, at, name, fields),
         None => Meaning::NoForm,
     }
 }
 
 // The same behind the number of a feeder.
-fn feed_of_feeder(program: &Program, act: Act, fields: &mut Fields) -> Meaning
-    requires { IsSound program.now }
-    ensures { result ≡ feed_of_feeder program.now act fields.old }
+fn feed_of_feeder(names: &Names, act: Act, fields: &mut Fields) -> Meaning
+    requires { IsSound names.now.program.now }
+    ensures { result ≡ feed_of_feeder names.now.program.now act fields.old }
 {
     let Some(field) = fields.next() else {
         return Meaning::NoForm;
     };
     match feeder(field) {
-        Some(feeder) => feed(program, act, feeder, fields),
+        Some(feeder) => feed(names, act, feeder, fields),
         None => Meaning::NoForm,
     }
 }
 
-fn ask_holds(program: &Program, fields: &mut Fields) -> Option<Command>
-    requires { IsSound program.now }
-    ensures { result ≡ ask_holds program.now fields.old }
+fn ask_holds(names: &Names, fields: &mut Fields) -> Option<Command>
+    requires { IsSound names.now.program.now }
+    ensures { result ≡ ask_holds names.now.program.now fields.old }
 {
     let at_field = fields.next()?;
     let value_field = fields.next()?;
     let name = fields.next()?;
     let at = number(at_field)?;
-    let unit = finder_of(program, name, fields).unit(program)?;
-    let value = value_of(program, unit, value_field)?;
+    let unit = names.unit(name, fields)?;
+    let value = value_of(names.program, unit, value_field)?;
     Some(Command::Ask(Query::Holds { unit, value, at }))
 }
 
-fn ask(program: &Program, fields: &mut Fields) -> Option<Command>
-    requires { IsSound program.now }
-    ensures { result ≡ ask program.now fields.old }
+fn ask(names: &Names, fields: &mut Fields) -> Option<Command>
+    requires { IsSound names.now.program.now }
+    ensures { result ≡ ask names.now.program.now fields.old }
 {
     let what = fields.next()?;
     if what == b"holds".as_slice() {
-        ask_holds(program, fields)
+        ask_holds(names, fields)
     } else if what == b"count".as_slice() {
         ask_count(fields)
     } else if what == b"block".as_slice() {
@@ -184,17 +166,17 @@ fn ask(program: &Program, fields: &mut Fields) -> Option<Command>
     }
 }
 
-fn meaning_by(program: &Program, shape: Shape, verb: Verb, fields: &mut Fields) -> Meaning
-    requires { IsSound program.now }
-    ensures { result ≡ meaning_by program.now shape verb fields.old }
+fn meaning_by(names: &Names, shape: Shape, verb: Verb, fields: &mut Fields) -> Meaning
+    requires { IsSound names.now.program.now }
+    ensures { result ≡ meaning_by names.now.program.now shape verb fields.old }
 {
     match (shape, verb) {
-        (Shape::Merged, Verb::Adds) => feed_of_feeder(program, Act::Add, fields),
-        (Shape::Merged, Verb::Revokes) => feed_of_feeder(program, Act::Revoke, fields),
-        (Shape::Feeder { number }, Verb::Adds) => feed(program, Act::Add, number, fields),
-        (Shape::Feeder { number }, Verb::Revokes) => feed(program, Act::Revoke, number, fields),
+        (Shape::Merged, Verb::Adds) => feed_of_feeder(names, Act::Add, fields),
+        (Shape::Merged, Verb::Revokes) => feed_of_feeder(names, Act::Revoke, fields),
+        (Shape::Feeder { number }, Verb::Adds) => feed(names, Act::Add, number, fields),
+        (Shape::Feeder { number }, Verb::Revokes) => feed(names, Act::Revoke, number, fields),
         (Shape::Merged | Shape::Clock, Verb::Seals) => seal(fields),
-        (Shape::Merged | Shape::Reader, Verb::Asks) => or_no_form(ask(program, fields)),
+        (Shape::Merged | Shape::Reader, Verb::Asks) => or_no_form(ask(names, fields)),
         (Shape::Feeder { .. } | Shape::Reader, Verb::Waits) => or_no_form(wait(fields)),
         (Shape::Clock, Verb::Follows) => or_no_form(after(fields)),
         _ => Meaning::NoForm,
@@ -202,13 +184,13 @@ fn meaning_by(program: &Program, shape: Shape, verb: Verb, fields: &mut Fields) 
 }
 
 /// What a record says in a script of a shape.
-pub(crate) fn meaning_of(program: &Program, shape: Shape, row: &ByteRecord) -> Meaning
-    requires { IsSound program.now }
-    ensures { result ≡ meaning_of program.now shape (fields_of row.now) }
+pub(crate) fn meaning_of(names: &Names, shape: Shape, row: &ByteRecord) -> Meaning
+    requires { IsSound names.now.program.now }
+    ensures { result ≡ meaning_of names.now.program.now shape (fields_of row.now) }
 {
     let mut fields = Fields::of(row);
     match fields.next() {
-        Some(field) => meaning_by(program, shape, verb_of(field), &mut fields),
+        Some(field) => meaning_by(names, shape, verb_of(field), &mut fields),
         None => Meaning::NoForm,
     }
 }

@@ -88,6 +88,8 @@ seal
 ask,holds,2,yes,open,r2
 ask,count
 ask,block,12
+add,1,6,move,r2,r3
+add,1,6,move,r1,r2,r1
 ";
     let holds = Query::Holds {
         unit: 1,
@@ -103,7 +105,7 @@ ask,block,12
         placed(8, Command::Ask(Query::Block { number: 12 })),
     ];
     let found = merged(rt.alloc(), text.as_slice());
-    assert!(rt; is_script(&found, wanted.as_slice(), 2));
+    assert!(rt; is_script(&found, wanted.as_slice(), 4));
     Ok(())
 }
 
