@@ -11,7 +11,7 @@ python3 - "$program" <<'PYTHON'
 import random, subprocess, sys, time
 program = sys.argv[1]
 limit = 1 << 20
-head = "window(10).\nstep(5).\n"
+head = "window(10).\nstep(5).\nqueries(1).\n"
 
 def filled(front, line, count=None, end=""):
     """The front, lines (of a number) as long as they fit, and the end."""

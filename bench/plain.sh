@@ -1,5 +1,5 @@
 #!/usr/bin/env bash
-# Times the built program on the longest plain script: 999 adds over descriptions of just under 1,048,576 bytes.
+# Times the built program on the longest script that runs: 1,000 adds over descriptions of just under 1,048,576 bytes.
 # Usage: bench/plain.sh [PROGRAM]; build it first (`rt run` in crates/rtec_main).
 set -eu
 program=$(realpath "${1:-$(dirname "$0")/../crates/rtec_main/out/rtec_main}")
@@ -7,7 +7,7 @@ folder=$(mktemp -d)
 trap 'rm -rf "$folder"' EXIT
 cd "$folder"
 python3 - <<'PYTHON'
-head = "window(1000000).\nstep(1000000).\nfrom(0).\n"
+head = "window(1000000).\nstep(1000000).\nfrom(0).\nqueries(1).\n"
 limit = 1048576
 
 def write(name, lines):
@@ -25,7 +25,7 @@ fluents = [f"f{i}" for i in range(20000)]
 write("many_fluents", ["input up.\n"] + [f"simple {f} [true].\n" for f in fluents] + [f"initiatedAt({f}=true) :- happensAt(up).\n" for f in fluents])
 # many events, and few rules
 write("many_events", ["input up.\n"] + [f"input e{i}.\n" for i in range(80000)] + ["simple on [true].\n", "initiatedAt(on=true) :- happensAt(up).\n"])
-open("script", "w").write("".join(f"add,1,{(i * 7919) % 1000000 + 1},up\n" for i in range(999)) + "seal\n")
+open("script", "w").write("".join(f"add,1,{(i * 7919) % 1000000 + 1},up\n" for i in range(1000)) + "seal\n")
 PYTHON
 for description in one_fluent many_fluents many_events; do
   start=$(date +%s%N)

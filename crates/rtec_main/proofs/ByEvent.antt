@@ -1,69 +1,65 @@
--- Points that are gathered by their events.
-use Rattle.std.proofs.Common.{◌≡◌, ◌≢◌, ℕ, zero, suc, ◌+◌, ◌<◌, Bool, true, false, ◌&&◌, ◌||◌, ltb, eqb, List, [], ◌∷◌, ◌++◌, length, get_or, set, take, replicate, map, refl, sym, ◌∙◌, ap, ap₂, arith}
-use Rattle.std.specs.List.{list_any, list_all}
-use Rattle.std.proofs.Common.{get_or-set_other, get_or-set_same}
-use Rattle.std.proofs.Math.Bool.{or-false}
+-- The occurrences of one event, in a list that is in order by event.
+use Rattle.std.proofs.Common.{◌≡◌, ℕ, ◌+◌, ◌-◌, ◌<◌, ◌≤◌, Bool, true, false, leb, ltb, eqb, List, [], ◌∷◌, ◌++◌, length, get_or, take, drop, filter, All, refl, sym, ◌∙◌, ap, ap₂, arith, append-nil, length-take, length-drop, get_or-take, get_or-drop, take-append-drop}
+use Rattle.std.specs.List.Sorted.{IsPartitionPoint}
 use Rattle.std.proofs.lemmas.Bool.Decides.{nat_tests}
-use Rattle.std.proofs.lemmas.List.{take_more, map-set, get_or-map}
-use Rattle.std.proofs.lemmas.List.Folds.{list_any-append}
-use Rattle.std.proofs.lemmas.List.Sums.{AllPass-from_list_all}
-use Rattle.ground_types.specs.Members.{contains}
-use Rattle.ground_types.specs.Recognition.{is_among}
+use Rattle.std.proofs.lemmas.List.Elements.{filter-append, All-head, All-tail}
 use Rattle.ground_types.specs.declared.entries.Occ.{Occ}
 
-none_at : (n event : ℕ) → get_or (replicate n []) event [] ≡ (let none : List ℕ = [] in none)
-none_at zero event = refl
-none_at (suc n) zero = refl
-none_at (suc n) (suc event) = none_at n event
+kept : {X : Type 0} (test : X → Bool) (x : X) (xs : List X) → test x ≡ true → filter test (x ∷ xs) ≡ x ∷ filter test xs
+kept test x xs is = rw is refl
 
--- at first no event has a point
-pub none_gathered : (n event t : ℕ) (rows : List (List ℕ)) → rows ≡ replicate n [] → contains (get_or rows event []) t ≡ false
-none_gathered n event t rows is =
-    ap (λ (r : List (List ℕ)). contains (get_or r event []) t) is ∙ ap (λ (l : List ℕ). contains l t) (none_at n event)
+dropped : {X : Type 0} (test : X → Bool) (x : X) (xs : List X) → test x ≡ false → filter test (x ∷ xs) ≡ filter test xs
+dropped test x xs is = rw is refl
 
-with_point : (event other at t : ℕ) (rows : List (List ℕ)) (b : Bool) → eqb other event ≡ b → other < length rows →
-    contains (get_or (set rows other (get_or rows other [] ++ at ∷ [])) event []) t ≡ (contains (get_or rows event []) t || (b && eqb at t))
-with_point event other at t rows true same within =
-    let is : event ≡ other = grind (arith, nat_tests) in
-    ap (λ (e : ℕ). contains (get_or (set rows other (get_or rows other [] ++ at ∷ [])) e []) t) is
-    ∙ ap (λ (l : List ℕ). contains l t) (get_or-set_same rows other (get_or rows other [] ++ at ∷ []) [] within)
-    ∙ list_any-append (λ y. eqb y t) (get_or rows other []) (at ∷ [])
-    ∙ ap₂ (λ (a b : Bool). a || b) (ap (λ (e : ℕ). contains (get_or rows e []) t) (sym is)) (or-false (eqb at t))
-with_point event other at t rows false apart within =
-    let ne : event ≢ other = λ is. absurd (let both : true ≡ false = sym (let hit : eqb other event ≡ true = grind (arith, nat_tests) in hit) ∙ apart in cc) in
-    ap (λ (l : List ℕ). contains l t) (get_or-set_other rows other event (get_or rows other [] ++ at ∷ []) [] ne) ∙ sym (or-false _)
+filter_none : {X : Type 0} (test : X → Bool) (xs : List X) → All (λ x. test x ≡ false) xs → filter test xs ≡ []
+filter_none test [] none = refl
+filter_none test (x ∷ xs) none =
+    dropped test x xs (All-head (λ y. test y ≡ false) x xs none) ∙ filter_none test xs (All-tail (λ y. test y ≡ false) x xs none)
 
--- the points of the event at a place
-pub points_at : {V : Type 0} (items : V → List ℕ) (rows : List V) (event : ℕ) (row : V) → event < length rows → row ≡ get_or rows event row →
-    items row ≡ get_or (map items rows) event []
-points_at items rows event row within is = ap items is ∙ sym (get_or-map items rows event row [] within)
+filter_all : {X : Type 0} (test : X → Bool) (xs : List X) → All (λ x. test x ≡ true) xs → filter test xs ≡ xs
+filter_all test [] all = refl
+filter_all test (x ∷ xs) all =
+    kept test x xs (All-head (λ y. test y ≡ true) x xs all) ∙ ap (λ (l : List _). x ∷ l) (filter_all test xs (All-tail (λ y. test y ≡ true) x xs all))
 
--- the points of all events, where one is pushed to those of one event
-pub pushed_at : {V : Type 0} (items : V → List ℕ) (rows : List V) (event at : ℕ) (old new : V) → event < length rows → old ≡ get_or rows event old →
-    items new ≡ items old ++ at ∷ [] →
-    map items (set rows event new) ≡ set (map items rows) event (get_or (map items rows) event [] ++ at ∷ [])
-pushed_at items rows event at old new within is pushed =
-    map-set items rows event new
-    ∙ ap (λ (l : List ℕ). set (map items rows) event l)
-    (pushed ∙ ap (λ (l : List ℕ). l ++ at ∷ []) (points_at items rows event old within is))
+-- what passes where nothing passes before a place
+filter_from : {X : Type 0} (test : X → Bool) (xs : List X) (k : ℕ) → All (λ x. test x ≡ false) (take k xs) → filter test xs ≡ filter test (drop k xs)
+filter_from test xs k none =
+    ap (filter test) (sym (take-append-drop k xs)) ∙ filter-append test (take k xs) (drop k xs)
+    ∙ ap (λ (l : List _). l ++ filter test (drop k xs)) (filter_none test (take k xs) none)
 
--- the point of one more occurrence
-pub gathered_more : (occs : List Occ) (i : ℕ) (d : Occ) (rows more : List (List ℕ)) (event t : ℕ) → i < length occs →
-    (get_or occs i d).event < length rows →
-    more ≡ set rows (get_or occs i d).event (get_or rows (get_or occs i d).event [] ++ (get_or occs i d).at ∷ []) →
-    contains (get_or rows event []) t ≡ is_among (take i occs) event t → contains (get_or more event []) t ≡ is_among (take (i + 1) occs) event t
-gathered_more occs i d rows more event t within known is old =
-    let occ : Occ = get_or occs i d in
-    let test : Occ → Bool = λ o. eqb o.event event && eqb o.at t in
-    ap (λ (r : List (List ℕ)). contains (get_or r event []) t) is
-    ∙ with_point event occ.event occ.at t rows (eqb occ.event event) refl known
-    ∙ ap₂ (λ (a b : Bool). a || b) old (sym (or-false (eqb occ.event event && eqb occ.at t)))
-    ∙ sym (list_any-append test (take i occs) (occ ∷ []))
-    ∙ ap (list_any test) (sym (take_more occs i d within))
+-- what passes where all pass up to a place, and nothing from there on
+filter_up_to : {X : Type 0} (test : X → Bool) (xs : List X) (k : ℕ) → All (λ x. test x ≡ true) (take k xs) → All (λ x. test x ≡ false) (drop k xs) →
+    filter test xs ≡ take k xs
+filter_up_to test xs k all none =
+    ap (filter test) (sym (take-append-drop k xs)) ∙ filter-append test (take k xs) (drop k xs)
+    ∙ ap₂ (λ (l m : List _). l ++ m) (filter_all test (take k xs) all) (filter_none test (drop k xs) none) ∙ append-nil (take k xs)
 
--- an occurrence of a list of known events
-pub known_at : (events : ℕ) (occs : List Occ) (i : ℕ) (d : Occ) → list_all (λ occ. ltb occ.event events) occs ≡ true → i < length occs →
-    (get_or occs i d).event < events
-known_at events occs i d known within =
-    let passes : ltb (get_or occs i d).event events ≡ true = AllPass-from_list_all (λ (o : Occ). ltb o.event events) occs known i d within in
-    grind (arith, nat_tests)
+below_differs : (e event : ℕ) → ltb e event ≡ true → eqb e event ≡ false
+below_differs e event is = grind (arith, nat_tests)
+
+above_differs : (e event : ℕ) → leb e event ≡ false → eqb e event ≡ false
+above_differs e event is = grind (arith, nat_tests)
+
+between_is : (e event : ℕ) → ltb e event ≡ false → leb e event ≡ true → eqb e event ≡ true
+between_is e event low high = grind (arith, nat_tests)
+
+-- between the first place where the event is not below and the first where it is above there are its occurrences
+pub part_is : (occs : List Occ) (event begin end : ℕ) → begin ≤ length occs → end ≤ length (drop begin occs) →
+    IsPartitionPoint (λ occ. ltb occ.event event ≡ true) (λ occ. ltb occ.event event ≡ false) occs begin →
+    IsPartitionPoint (λ occ. leb occ.event event ≡ true) (λ occ. leb occ.event event ≡ false) (drop begin occs) end →
+    take end (drop begin occs) ≡ filter (λ occ. eqb occ.event event) occs
+part_is occs event begin end begins ends first second =
+    let test : Occ → Bool = λ occ. eqb occ.event event in
+    let rest : List Occ = drop begin occs in
+    let long : length rest ≡ length occs - begin = length-drop begin occs in
+    sym (filter_from test occs begin
+    (λ k d within. let low : k < begin = omega (arith, length-take begin occs) in
+    ap test (get_or-take begin occs k d low) ∙ below_differs (get_or occs k d).event event (first.0 k d (omega arith) low))
+    ∙ filter_up_to test rest end
+    (λ k d within. let low : k < end = omega (arith, length-take end rest) in
+    ap test (get_or-take end rest k d low)
+    ∙ between_is (get_or rest k d).event event
+    (ap (λ (occ : Occ). ltb occ.event event) (get_or-drop begin occs k d) ∙ first.1 (begin + k) d (omega arith) (omega (arith, long)))
+    (second.0 k d (omega arith) low))
+    (λ k d within. ap test (get_or-drop end rest k d)
+    ∙ above_differs (get_or rest (end + k) d).event event (second.1 (end + k) d (omega arith) (omega (arith, length-drop end rest)))))

@@ -15,7 +15,7 @@ use Rattle.ground_types.specs.declared.program.UnitKind.TheVariants.{Simple, Sta
 use Rattle.ground_types.specs.declared.program.Name.{Name}
 use Rattle.ground_types.specs.declared.program.Program.{Program}
 use Rattle.span_algebra.specs.declared.rows.UnitRows.{UnitRows}
-use Rattle.rtec_main.specs.Plain.{is_plain_kind, has_one_value, IsPlain}
+use Rattle.rtec_main.specs.Built.{is_plain_kind, has_one_value, IsPlain}
 use Rattle.rtec_main.specs.Recognised.{plain_rows}
 use Rattle.rtec_main.specs.Report.{span_count, point_count}
 use Rattle.rtec_main.proofs.Both.{both_left, both_right}
@@ -117,7 +117,7 @@ width plan k sound = omega (arith, sound.window_most)
 -- the spans of rows that are published of a plain program
 pub few_spans : (program : Program) (history : List Entry) (k : ℕ) (rows : List UnitRows) → IsPlain program →
     map plain_rows rows ≡ (publication program history k).rows →
-    sum_by (λ unit. span_count (plain_rows unit)) rows ≤ 1048576 * 1000000000001
+    sum_by (λ unit. span_count (plain_rows unit)) rows ≤ 65536 * 1000000000001
 few_spans program history k rows plain are =
     let same : sum_by (λ unit. span_count (plain_rows unit)) rows ≡ sum_by span_count (publication program history k).rows =
     sym (sum_by_map span_count plain_rows rows) ∙ ap (λ (r : List PublishedRows). sum_by span_count r) are in
@@ -125,7 +125,7 @@ few_spans program history k rows plain are =
       arith,
       same,
       spans_of_table program (query_table program history k) (left program.plan k) (right program.plan k) plain,
-      product_le (length program.units) (right program.plan k + 1 - left program.plan k) 1048576 1000000000001 plain.units_most (width program.plan k plain.plan),
+      product_le (length program.units) (right program.plan k + 1 - left program.plan k) 65536 1000000000001 plain.sound.units_most (width program.plan k plain.sound.plan),
     )
 
 -- and their points

@@ -1,15 +1,16 @@
 -- Where rules are triggered lies in the window.
-use Rattle.std.proofs.Common.{◌≡◌, ◌⊎◌, inl, inr, ℕ, zero, suc, ◌<◌, ◌≤◌, Bool, true, false, ◌||◌, eqb, List, [], ◌∷◌, length, get_or, refl, sym, ◌∙◌, subst}
-use Rattle.std.specs.List.{list_any, list_all, AllByRecursion}
+use Rattle.std.proofs.Common.{◌≡◌, ◌⊎◌, inl, inr, ℕ, ◌<◌, ◌≤◌, Bool, true, false, ◌||◌, eqb, List, [], ◌∷◌, refl, sym, ◌∙◌, subst}
+use Rattle.std.specs.List.{list_any, list_all}
 use Rattle.ground_types.specs.Members.{contains}
 use Rattle.ground_types.specs.Truth.{body_holds}
 use Rattle.ground_types.proofs.Members.{contains_hit, first_or_rest, and_left, and_right}
+use Rattle.ground_types.specs.declared.entries.Occ.{Occ}
 use Rattle.ground_types.specs.declared.program.Rule.{Rule}
 use Rattle.ground_types.specs.declared.program.Trigger.{Trigger}
 use Rattle.ground_types.specs.declared.program.Trigger.TheVariants.{Event, Derived, Start, End}
 use Rattle.simple_fluent.specs.Rows.{IsInside}
-use Rattle.rtec_main.specs.Plain.{is_plain_rule}
-use Rattle.rtec_main.specs.Recognised.{input_table, trigger_points}
+use Rattle.rtec_main.specs.Built.{is_plain_rule}
+use Rattle.rtec_main.specs.Recognised.{points_of, input_table, trigger_points}
 use Rattle.rtec_main.proofs.Triggers.{body_there}
 
 -- the point lies in the window
@@ -38,44 +39,39 @@ inside_from w q (x ∷ rest) within =
     let first : IsWithin w q x = within x (contains_hit x rest x refl) in
     (first.above, first.up_to, inside_from w q rest (λ t has. within t (or_later (eqb x t) (contains rest t) has)))
 
-inside_at : (w q : ℕ) (standing : List (List ℕ)) (event : ℕ) → AllByRecursion (IsInside w q) standing → IsInside w q (get_or standing event [])
-inside_at w q [] event inside = tt
-inside_at w q (row ∷ rest) zero inside = inside.0
-inside_at w q (row ∷ rest) (suc event) inside = inside_at w q rest event inside.1
-
-trigger_inside : (w q : ℕ) (standing : List (List ℕ)) (trigger : Trigger) → AllByRecursion (IsInside w q) standing →
-    IsInside w q (trigger_points standing trigger)
-trigger_inside w q standing (Event event) inside = inside_at w q standing event inside
-trigger_inside w q standing (Derived unit) inside = tt
-trigger_inside w q standing (Start unit v) inside = tt
-trigger_inside w q standing (End unit v) inside = tt
+trigger_inside : (w q : ℕ) (occs : List Occ) (trigger : Trigger) → ((event : ℕ) → IsInside w q (points_of occs event)) →
+    IsInside w q (trigger_points occs trigger)
+trigger_inside w q occs (Event event) inside = inside event
+trigger_inside w q occs (Derived unit) inside = tt
+trigger_inside w q occs (Start unit v) inside = tt
+trigger_inside w q occs (End unit v) inside = tt
 
 either : (a b : Bool) → (a || b) ≡ true → (a ≡ true) ⊎ (b ≡ true)
 either true b is = inl refl
 either false b is = inr is
 
-within_rule : (w q : ℕ) (standing : List (List ℕ)) (rule : Rule) (any : Bool) (t : ℕ) → AllByRecursion (IsInside w q) standing →
-    is_plain_rule (length standing) rule ≡ true → (body_holds (input_table standing) rule t ≡ true) ⊎ (any ≡ true) →
+within_rule : (w q : ℕ) (occs : List Occ) (events : ℕ) (rule : Rule) (any : Bool) (t : ℕ) → ((event : ℕ) → IsInside w q (points_of occs event)) →
+    is_plain_rule events rule ≡ true → (body_holds (input_table occs) rule t ≡ true) ⊎ (any ≡ true) →
     (any ≡ true → IsWithin w q t) → IsWithin w q t
-within_rule w q standing rule any t inside plain (inl holds) go =
-    within_list w q (trigger_points standing rule.trigger) t (trigger_inside w q standing rule.trigger inside)
-    (sym (body_there standing (length standing) rule t plain) ∙ holds)
-within_rule w q standing rule any t inside plain (inr later) go = go later
+within_rule w q occs events rule any t inside plain (inl holds) go =
+    within_list w q (trigger_points occs rule.trigger) t (trigger_inside w q occs rule.trigger inside)
+    (sym (body_there occs events rule t plain) ∙ holds)
+within_rule w q occs events rule any t inside plain (inr later) go = go later
 
-within_rules : (w q : ℕ) (standing : List (List ℕ)) (rules : List Rule) (t : ℕ) → AllByRecursion (IsInside w q) standing →
-    list_all (is_plain_rule (length standing)) rules ≡ true → list_any (λ rule. body_holds (input_table standing) rule t) rules ≡ true → IsWithin w q t
-within_rules w q standing [] t inside plain holds = cc
-within_rules w q standing (rule ∷ rest) t inside plain holds =
-    let rest_plain : list_all (is_plain_rule (length standing)) rest ≡ true =
-    and_right (is_plain_rule (length standing) rule) (list_all (is_plain_rule (length standing)) rest) plain in
-    within_rule w q standing rule (list_any (λ rule. body_holds (input_table standing) rule t) rest) t inside
-    (and_left (is_plain_rule (length standing) rule) (list_all (is_plain_rule (length standing)) rest) plain)
-    (either (body_holds (input_table standing) rule t) (list_any (λ rule. body_holds (input_table standing) rule t) rest) holds)
-    (λ later. within_rules w q standing rest t inside rest_plain later)
+within_rules : (w q : ℕ) (occs : List Occ) (events : ℕ) (rules : List Rule) (t : ℕ) → ((event : ℕ) → IsInside w q (points_of occs event)) →
+    list_all (is_plain_rule events) rules ≡ true → list_any (λ rule. body_holds (input_table occs) rule t) rules ≡ true → IsWithin w q t
+within_rules w q occs events [] t inside plain holds = cc
+within_rules w q occs events (rule ∷ rest) t inside plain holds =
+    let rest_plain : list_all (is_plain_rule events) rest ≡ true =
+    and_right (is_plain_rule events rule) (list_all (is_plain_rule events) rest) plain in
+    within_rule w q occs events rule (list_any (λ rule. body_holds (input_table occs) rule t) rest) t inside
+    (and_left (is_plain_rule events rule) (list_all (is_plain_rule events) rest) plain)
+    (either (body_holds (input_table occs) rule t) (list_any (λ rule. body_holds (input_table occs) rule t) rest) holds)
+    (λ later. within_rules w q occs events rest t inside rest_plain later)
 
 -- the points at which some rule is triggered lie in the window
-pub triggered_inside : (w q : ℕ) (standing : List (List ℕ)) (rules : List Rule) (found : List ℕ) → AllByRecursion (IsInside w q) standing →
-    list_all (is_plain_rule (length standing)) rules ≡ true →
-    ((t : ℕ) → contains found t ≡ list_any (λ rule. body_holds (input_table standing) rule t) rules) → IsInside w q found
-triggered_inside w q standing rules found inside plain each =
-    inside_from w q found (λ t has. within_rules w q standing rules t inside plain (sym (each t) ∙ has))
+pub triggered_inside : (w q : ℕ) (occs : List Occ) (events : ℕ) (rules : List Rule) (found : List ℕ) → ((event : ℕ) → IsInside w q (points_of occs event)) →
+    list_all (is_plain_rule events) rules ≡ true →
+    ((t : ℕ) → contains found t ≡ list_any (λ rule. body_holds (input_table occs) rule t) rules) → IsInside w q found
+triggered_inside w q occs events rules found inside plain each =
+    inside_from w q found (λ t has. within_rules w q occs events rules t inside plain (sym (each t) ∙ has))

@@ -69,21 +69,21 @@ lines_of_history program commands =
     lines_of_commands program [] commands ∙ ap (λ (h : List Entry). lines_after program [] h) (sym (history_grows program.plan [] commands))
 
 -- adds and a seal behind them: the lines of the adds, and then the block
-lines_of_adds : (program : Program) (events : ℕ) (before adds : List Entry) → list_all (is_fed_add events) adds ≡ true →
+lines_of_adds : (program : Program) (before adds : List Entry) → list_all is_fed_add adds ≡ true →
     lines_after program before (adds ++ Seal 0 ∷ [])
     ≡ flat_map (feed_lines program) adds ++ block_lines program (before ++ (adds ++ Seal 0 ∷ [])) 0
-lines_of_adds program events before [] fed = append-nil (block_lines program (before ++ Seal 0 ∷ []) 0)
-lines_of_adds program events before (Fed feeder act event at reply ∷ rest) fed =
+lines_of_adds program before [] fed = append-nil (block_lines program (before ++ Seal 0 ∷ []) 0)
+lines_of_adds program before (Fed feeder act event at reply ∷ rest) fed =
     let entry : Entry = Fed feeder act event at reply in
-    let later : list_all (is_fed_add events) rest ≡ true = both_right (is_fed_add events entry) (list_all (is_fed_add events) rest) fed in
+    let later : list_all is_fed_add rest ≡ true = both_right (is_fed_add entry) (list_all is_fed_add rest) fed in
     ap (λ (l : List (List ℕ)). entry_lines program before entry ++ l)
-    (lines_of_adds program events (before ++ entry ∷ []) rest later
+    (lines_of_adds program (before ++ entry ∷ []) rest later
     ∙ ap (λ (h : List Entry). flat_map (feed_lines program) rest ++ block_lines program h 0)
     (append_assoc before (entry ∷ []) (rest ++ Seal 0 ∷ [])))
-lines_of_adds program events before (Seal number ∷ rest) fed = cc
+lines_of_adds program before (Seal number ∷ rest) fed = cc
 
 -- the lines of a plain script: those of its adds, and the block of its seal
-pub lines_of_plain : (program : Program) (commands : List Command) → IsPlainHistory program.events (history_of program.plan commands) →
+pub lines_of_plain : (program : Program) (commands : List Command) → IsPlainHistory (history_of program.plan commands) →
     command_lines program [] commands
     ≡ flat_map (feed_lines program) (history_of program.plan commands) ++ block_lines program (history_of program.plan commands) 0
 lines_of_plain program commands plain =
@@ -92,7 +92,7 @@ lines_of_plain program commands plain =
     flat_map-append (feed_lines program) plain.adds (Seal 0 ∷ []) ∙ append-nil (flat_map (feed_lines program) plain.adds) in
     lines_of_history program commands
     ∙ ap (λ (h : List Entry). lines_after program [] h) plain.is
-    ∙ lines_of_adds program program.events [] plain.adds plain.are_adds
+    ∙ lines_of_adds program [] plain.adds plain.are_adds
     ∙ ap (λ (l : List (List ℕ)). l ++ block_lines program made 0) (sym feeds)
     ∙ ap (λ (h : List Entry). flat_map (feed_lines program) h ++ block_lines program h 0) (sym plain.is)
 
@@ -101,12 +101,12 @@ over_one : (count : ℕ → ℕ) (history : List Entry) → seals history ≡ 1 
 over_one count history one = ap (λ (n : ℕ). sum_by count (range_with_len 0 n)) one ∙ zero-add (count 0)
 
 -- with one seal the sums are those of its publication
-ends_of_plain : (program : Program) (history : List Entry) → IsPlainHistory program.events history →
-    end_of history 0 (publication program history 0).rows (evaluations program history 0) ≡ end_lines program history 0
-ends_of_plain program history plain =
-    let sealed : seals history ≡ 1 = one_seal program.events history plain in
+ends_of_plain : (program : Program) (history : List Entry) (ignored : ℕ) → IsPlainHistory history →
+    end_of history ignored (publication program history 0).rows (evaluations program history 0) ≡ end_lines program history ignored
+ends_of_plain program history ignored plain =
+    let sealed : seals history ≡ 1 = one_seal history plain in
     let ends : ℕ → ℕ → ℕ → List (List ℕ) =
-    λ spans points count. (codes "ignored " ++ decimal 0) ∷ entries_line history ∷ totals_line (seals history) spans points count ∷ [] in
+    λ spans points count. (codes "ignored " ++ decimal ignored) ∷ entries_line history ∷ totals_line (seals history) spans points count ∷ [] in
     let spans : ℕ → ℕ = λ k. sum_by span_count (publication program history k).rows in
     let points : ℕ → ℕ = λ k. sum_by point_count (publication program history k).rows in
     sym (ap (λ (n : ℕ). ends n (over_queries points history) (over_queries (evaluations program history) history)) (over_one spans history sealed)
@@ -114,20 +114,20 @@ ends_of_plain program history plain =
     ∙ ap (λ (n : ℕ). ends (spans 0) (points 0) n) (over_one (evaluations program history) history sealed))
 
 -- the text of the parts is the report
-pub report_joins : (program : Program) (commands : List Command) (rows : List PublishedRows) (count : ℕ) →
-    IsPlainHistory program.events (history_of program.plan commands) →
+pub report_joins : (program : Program) (commands : List Command) (rows : List PublishedRows) (count ignored : ℕ) →
+    IsPlainHistory (history_of program.plan commands) →
     rows ≡ (publication program (history_of program.plan commands) 0).rows →
     count ≡ evaluations program (history_of program.plan commands) 0 →
     text_of_lines (flat_map (feed_lines program) (history_of program.plan commands)) ++ text_of_lines (block_of program 0 rows count)
-    ++ text_of_lines (end_of (history_of program.plan commands) 0 rows count)
-    ≡ report_text program commands 0
-report_joins program commands rows count plain rows_are count_is =
+    ++ text_of_lines (end_of (history_of program.plan commands) ignored rows count)
+    ≡ report_text program commands ignored
+report_joins program commands rows count ignored plain rows_are count_is =
     let history : List Entry = history_of program.plan commands in
     let feeds : List (List ℕ) = flat_map (feed_lines program) history in
-    ap₂ (λ (r : List PublishedRows) (n : ℕ). text_of_lines feeds ++ text_of_lines (block_of program 0 r n) ++ text_of_lines (end_of history 0 r n))
+    ap₂ (λ (r : List PublishedRows) (n : ℕ). text_of_lines feeds ++ text_of_lines (block_of program 0 r n) ++ text_of_lines (end_of history ignored r n))
     rows_are count_is
     ∙ ap (λ (l : List (List ℕ)). text_of_lines feeds ++ text_of_lines (block_lines program history 0) ++ text_of_lines l)
-    (ends_of_plain program history plain)
-    ∙ ap (λ (t : List ℕ). t ++ text_of_lines (end_lines program history 0)) (sym (text_append feeds (block_lines program history 0)))
-    ∙ sym (text_append (feeds ++ block_lines program history 0) (end_lines program history 0))
-    ∙ ap (λ (l : List (List ℕ)). text_of_lines (l ++ end_lines program history 0)) (sym (lines_of_plain program commands plain))
+    (ends_of_plain program history ignored plain)
+    ∙ ap (λ (t : List ℕ). t ++ text_of_lines (end_lines program history ignored)) (sym (text_append feeds (block_lines program history 0)))
+    ∙ sym (text_append (feeds ++ block_lines program history 0) (end_lines program history ignored))
+    ∙ ap (λ (l : List (List ℕ)). text_of_lines (l ++ end_lines program history ignored)) (sym (lines_of_plain program commands plain))

@@ -1,5 +1,5 @@
 -- The text of lines that are made item by item.
-use Rattle.std.proofs.Common.{◌≡◌, ℕ, ◌+◌, ◌<◌, ◌≤◌, min, List, [], ◌∷◌, ◌++◌, length, take, take_all, get_or, map, sym, ◌∙◌, ap, ap₂, arith, append_assoc}
+use Rattle.std.proofs.Common.{◌≡◌, ℕ, ◌+◌, ◌<◌, ◌≤◌, min, List, [], ◌∷◌, ◌++◌, length, take, take_all, get_or, map, refl, sym, ◌∙◌, ap, ap₂, arith, append_assoc}
 use Rattle.std.specs.List.{flat_map, zip}
 use Rattle.std.proofs.lemmas.List.{take_more, get_or-map, length-map, append-nil}
 use Rattle.std.proofs.lemmas.Grind.{flat_map-append}
@@ -43,6 +43,26 @@ zip_whole seen ks vs i is =
     length-zip ks (map seen vs) ∙ ap (λ (m : ℕ). min (length ks) m) (length-map vs seen) in
     let within : length (zip ks (map seen vs)) ≤ i = omega (arith, count) in
     take_all i (zip ks (map seen vs)) within
+
+-- one more pair of two lists makes its text
+pub pair_push : {A B : Type 0} (text : A × B → List ℕ) (ks : List A) (vs : List B) (i : ℕ) (k : A) (v : B) →
+    (i < length ks) × (i < length vs) × ((d : A) → k ≡ get_or ks i d) × ((d : B) → v ≡ get_or vs i d) → (n : ℕ) → n ≡ i + 1 →
+    flat_map text (take n (zip ks vs)) ≡ flat_map text (take i (zip ks vs)) ++ text (k, v)
+pair_push text ks vs i k v (low, low', first, second) n is =
+    let within : i < length (zip ks vs) = omega (arith, length-zip ks vs) in
+    let at : get_or (zip ks vs) i (k, v) ≡ (k, v) =
+    get_or-zip ks vs i (k, v) low low' ∙ ap₂ (λ (a : _) (b : _). (a, b)) (sym (first k)) (sym (second v)) in
+    ap (λ (m : ℕ). flat_map text (take m (zip ks vs))) is
+    ∙ ap (flat_map text) (take_more (zip ks vs) i (k, v) within ∙ ap (λ (p : _). take i (zip ks vs) ++ p ∷ []) at)
+    ∙ flat_map-append text (take i (zip ks vs)) ((k, v) ∷ [])
+    ∙ ap (λ (l : List ℕ). flat_map text (take i (zip ks vs)) ++ l) (append-nil (text (k, v)))
+
+pub pairs_whole : {A B : Type 0} (ks : List A) (vs : List B) (i : ℕ) → i ≡ min (length ks) (length vs) → take i (zip ks vs) ≡ zip ks vs
+pairs_whole ks vs i is = take_all i (zip ks vs) (omega (arith, length-zip ks vs))
+
+pub flat_map_map : {A B C : Type 0} (f : B → List C) (g : A → B) (xs : List A) → flat_map f (map g xs) ≡ flat_map (λ x. f (g x)) xs
+flat_map_map f g [] = refl
+flat_map_map f g (x ∷ xs) = ap (λ (l : List _). f (g x) ++ l) (flat_map_map f g xs)
 
 -- a text that grew by a piece
 pub grown : (base front piece now after : List ℕ) → now ≡ base ++ front → after ≡ now ++ piece → after ≡ base ++ (front ++ piece)

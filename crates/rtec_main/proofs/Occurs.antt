@@ -1,33 +1,21 @@
 -- Where the input events of query 0 occur.
-use Rattle.std.proofs.Common.{◌≡◌, ◌⊎◌, inl, inr, ℕ, zero, suc, ◌+◌, ◌<◌, ◌≤◌, Bool, true, false, ◌&&◌, ◌||◌, leb, ltb, eqb, List, [], ◌∷◌, length, get_or, map, refl, sym, ◌∙◌, ap, ap₂, arith}
+use Rattle.std.proofs.Common.{◌≡◌, ℕ, zero, suc, ◌+◌, ◌<◌, ◌≤◌, Bool, true, false, ◌&&◌, ◌||◌, leb, ltb, eqb, List, [], ◌∷◌, map, refl, sym, ◌∙◌, ap, ap₂, arith}
 use Rattle.std.specs.List.{flat_map, range_with_len}
 use Rattle.std.proofs.Math.Bool.{and-false}
-use Rattle.std.proofs.Math.Path.{fun_ext}
 use Rattle.std.proofs.lemmas.Bool.Decides.{nat_tests}
-use Rattle.std.proofs.lemmas.List.{get_or_past}
 use Rattle.std.proofs.lemmas.List.Folds.{list_any-append}
-use Rattle.std.proofs.lemmas.List.FromFn.{get_or-map-range_with_len, length-map-range_with_len}
 use Rattle.ground_types.specs.Members.{contains}
 use Rattle.ground_types.specs.Recognition.{is_among}
 use Rattle.ground_types.specs.Rows.{points}
 use Rattle.ground_types.specs.History.{stands, before_seal}
-use Rattle.ground_types.proofs.Rows.{le_or_above}
+use Rattle.ground_types.specs.Publication.{events_of_query}
+use Rattle.ground_types.specs.Windows.{left, right}
 use Rattle.ground_types.proofs.Points.{points_are}
 use Rattle.ground_types.specs.declared.entries.Entry.{Entry}
 use Rattle.ground_types.specs.declared.entries.Occ.{Occ}
-use Rattle.rtec_main.specs.Recognised.{standing_rows}
-
--- the points of an event among so many
-pub standing_at : (history : List Entry) (events w q event : ℕ) → event < events →
-    get_or (standing_rows history events w q) event [] ≡ points (stands (before_seal history 0) event) w q
-standing_at history events w q event lt =
-    get_or-map-range_with_len (λ event. points (stands (before_seal history 0) event) w q) 0 events event event [] lt (omega arith)
-
-standing_past : (history : List Entry) (events w q event : ℕ) → events ≤ event → get_or (standing_rows history events w q) event [] ≡ []
-standing_past history events w q event le =
-    let long : length (standing_rows history events w q) ≡ events =
-    length-map-range_with_len (λ event. points (stands (before_seal history 0) event) w q) 0 events in
-    get_or_past (standing_rows history events w q) event [] (omega (arith, long))
+use Rattle.ground_types.specs.declared.program.Program.{Program}
+use Rattle.rtec_main.specs.Recognised.{AreStanding}
+use Rattle.rtec_main.proofs.InOrder.{contains_points}
 
 and_or : (a b c : Bool) → ((a && b) || (a && c)) ≡ (a && (b || c))
 and_or true b c = refl
@@ -62,32 +50,20 @@ inside_once : (w q t e events : ℕ) (b : Bool) → e < events →
 inside_once w q t e events true lt = grind (arith, nat_tests)
 inside_once w q t e events false lt = grind (arith, nat_tests)
 
-outside_none : (w q t e events : ℕ) (b : Bool) → events ≤ e → (ltb w t && leb t q && (leb 0 e && ltb e (0 + events) && b)) ≡ false
-outside_none w q t e events b le = grind (arith, nat_tests)
-
--- the occurrences of so many events in the window, by event and then by point
-abbrev pub occs : List Entry → ℕ → ℕ → ℕ → List Occ
-occs history events w q =
-    flat_map (λ event. map (λ t. record { event = event; at = t }) (points (stands (before_seal history 0) event) w q)) (range_with_len 0 events)
-
-occurs_by : (history : List Entry) (events w q event t : ℕ) → w ≤ q → (events ≤ event) ⊎ (event < events) →
-    (ltb w t && leb t q && is_among (occs history events w q) event t) ≡ contains (get_or (standing_rows history events w q) event []) t
-occurs_by history events w q event t le (inl past) =
-    ap (λ (b : Bool). ltb w t && leb t q && b) (among_all (λ event. points (stands (before_seal history 0) event) w q) 0 events event t)
-    ∙ outside_none w q t event events (contains (points (stands (before_seal history 0) event) w q) t) past
-    ∙ sym (ap (λ (xs : List ℕ). contains xs t) (standing_past history events w q event past))
-occurs_by history events w q event t le (inr lt) =
-    let each : contains (points (stands (before_seal history 0) event) w q) t ≡ (ltb w t && leb t q && stands (before_seal history 0) event t) =
+-- an input event of the program occurs in query 0 at the points of the window at which it stands
+pub occurs_there : (program : Program) (history : List Entry) (occs : List Occ) (event t : ℕ) →
+    AreStanding history (left program.plan 0) (right program.plan 0) occs → event < program.events →
+    (ltb (left program.plan 0) t && leb t (right program.plan 0) && is_among (events_of_query program history 0) event t) ≡ is_among occs event t
+occurs_there program history occs event t are within =
+    let w = left program.plan 0 in
+    let q = right program.plan 0 in
+    let le : w ≤ q = omega arith in
+    let here : ℕ → List ℕ = λ e. points (stands (before_seal history 0) e) w q in
+    let each : contains (here event) t ≡ (ltb w t && leb t q && stands (before_seal history 0) event t) =
     (points_are (stands (before_seal history 0) event) w q le).each t in
     ap (λ (b : Bool). ltb w t && leb t q && b)
-    (among_all (λ event. points (stands (before_seal history 0) event) w q) 0 events event t
-    ∙ ap (λ (b : Bool). leb 0 event && ltb event (0 + events) && b) each)
-    ∙ inside_once w q t event events (stands (before_seal history 0) event t) lt
-    ∙ sym (ap (λ (xs : List ℕ). contains xs t) (standing_at history events w q event lt) ∙ each)
-
--- an input event occurs in the window at the points at which it stands
-pub occurs_where_stands : (history : List Entry) (events w q : ℕ) → w ≤ q →
-    let one : ℕ → ℕ → Bool = λ event t. ltb w t && leb t q && is_among (occs history events w q) event t in
-    one ≡ (λ event t. contains (get_or (standing_rows history events w q) event []) t)
-occurs_where_stands history events w q le =
-    fun_ext λ event. fun_ext λ t. occurs_by history events w q event t le (le_or_above events event)
+    (among_all here 0 program.events event t ∙ ap (λ (b : Bool). leb 0 event && ltb event (0 + program.events) && b) each)
+    ∙ inside_once w q t event program.events (stands (before_seal history 0) event t) within
+    ∙ sym each
+    ∙ ap (λ (list : List ℕ). contains list t) (sym (are.points event))
+    ∙ contains_points occs event t

@@ -1,22 +1,23 @@
 -- What is published of a plain program's query 0.
-use Rattle.std.proofs.Common.{◌≡◌, ℕ, zero, suc, ◌+◌, ◌<◌, ◌≤◌, Bool, true, ◌&&◌, List, [], ◌∷◌, length, map, slice_get, Option, Some, None, refl, sym, ◌∙◌, ap, ap₂, arith}
+use Rattle.std.proofs.Common.{◌≡◌, ℕ, zero, suc, ◌+◌, Bool, true, ◌&&◌, List, [], ◌∷◌, map, slice_get, Option, Some, None, refl, sym, ◌∙◌, ap, ap₂, arith}
 use Rattle.std.specs.List.{list_all, enumerate_from}
 use Rattle.std.proofs.Math.Path.{fun_ext}
 use Rattle.std.proofs.lemmas.Bool.Decides.{nat_tests}
 use Rattle.ground_types.specs.Truth.{Table, holds}
-use Rattle.ground_types.specs.Publication.{fluent_rows, value_count, rows_of_kind, rows_of_table, publication}
+use Rattle.ground_types.specs.Publication.{fluent_rows, value_count, rows_of_kind, query_table, publication}
 use Rattle.ground_types.specs.Rows.{row}
 use Rattle.ground_types.specs.Windows.{left, right}
 use Rattle.ground_types.proofs.Members.{and_left, and_right}
 use Rattle.ground_types.specs.declared.entries.Entry.{Entry}
+use Rattle.ground_types.specs.declared.entries.Occ.{Occ}
 use Rattle.ground_types.specs.declared.program.Name.{Name}
 use Rattle.ground_types.specs.declared.program.Unit.{Unit}
 use Rattle.ground_types.specs.declared.program.UnitKind.{UnitKind}
 use Rattle.ground_types.specs.declared.program.UnitKind.TheVariants.{Simple, Static, Derived}
 use Rattle.ground_types.specs.declared.program.Program.{Program}
-use Rattle.rtec_main.specs.Plain.{IsPlain, is_plain_kind, has_one_value}
-use Rattle.rtec_main.specs.Recognised.{standing_rows, rows_of_unit}
-use Rattle.rtec_main.proofs.QueryTable.{layer_table, table_is, IsUnitAt, holds_there}
+use Rattle.rtec_main.specs.Built.{IsPlain, is_plain_kind, has_one_value}
+use Rattle.rtec_main.specs.Recognised.{AreStanding, rows_of_unit}
+use Rattle.rtec_main.proofs.QueryTable.{holds_there}
 
 -- a list with places, where what is made of each item and its place is known
 pub map_places : {X Y : Type 0} (at : ℕ × X → Y) (of : X → Y) (a : ℕ) (xs : List X) →
@@ -36,11 +37,6 @@ rows_by table number events (Simple initially initiate terminate) w q plain = re
 rows_by table number events (Static exprs) w q plain = cc
 rows_by table number events (Derived rules) w q plain = cc
 
-within_by_get : {X : Type 0} (xs : List X) (k : ℕ) (x : X) → slice_get xs k ≡ Some x → k < length xs
-within_by_get [] k x is = cc
-within_by_get (y ∷ ys) zero x is = omega arith
-within_by_get (y ∷ ys) (suc k) x is = omega (arith, within_by_get ys k x is)
-
 -- what passes is passed at each place
 pub all_at : {X : Type 0} (test : X → Bool) (xs : List X) (k : ℕ) (x : X) → list_all test xs ≡ true → slice_get xs k ≡ Some x → test x ≡ true
 all_at test [] k x all is = cc
@@ -49,7 +45,7 @@ all_at test (y ∷ ys) (suc k) x all is = all_at test ys k x (and_right (test y)
 
 -- a unit of a plain program
 pub record IsPlainUnit (program : Program) (number : ℕ) (unit : Unit) : Type 0 where
-  pub place : IsUnitAt program number unit
+  pub at : slice_get program.units number ≡ Some unit
   pub kind : is_plain_kind program.events unit.kind ≡ true
   pub values : value_count (slice_get program.names unit.name) ≡ 1
 
@@ -58,37 +54,34 @@ plain_unit program number unit plain is =
     let passes : (is_plain_kind program.events unit.kind && has_one_value (slice_get program.names unit.name)) ≡ true =
     all_at (λ (u : Unit). is_plain_kind program.events u.kind && has_one_value (slice_get program.names u.name)) program.units number unit plain.units is in
     record {
-      place = record { at = is; within = within_by_get program.units number unit is };
+      at = is;
       kind = and_left (is_plain_kind program.events unit.kind) (has_one_value (slice_get program.names unit.name)) passes;
       values = count_by_name (slice_get program.names unit.name)
           (and_right (is_plain_kind program.events unit.kind) (has_one_value (slice_get program.names unit.name)) passes);
     }
 
-rows_at : (program : Program) (history : List Entry) (standing : List (List ℕ)) (number : ℕ) (unit : Unit) → IsPlainUnit program number unit →
-    rows_of_kind (layer_table program history standing) number (value_count (slice_get program.names unit.name)) unit.kind (left program.plan 0) (right program.plan 0)
-    ≡ rows_of_unit standing unit.kind (left program.plan 0) (right program.plan 0)
-rows_at program history standing number unit is =
+rows_at : (program : Program) (history : List Entry) (occs : List Occ) (number : ℕ) (unit : Unit) → IsPlain program →
+    AreStanding history (left program.plan 0) (right program.plan 0) occs → IsPlainUnit program number unit →
+    rows_of_kind (query_table program history 0) number (value_count (slice_get program.names unit.name)) unit.kind (left program.plan 0) (right program.plan 0)
+    ≡ rows_of_unit occs unit.kind (left program.plan 0) (right program.plan 0)
+rows_at program history occs number unit plain are is =
     let w = left program.plan 0 in
     let q = right program.plan 0 in
-    let table : Table = layer_table program history standing in
+    let table : Table = query_table program history 0 in
     ap (λ (n : ℕ). rows_of_kind table number n unit.kind w q) is.values
     ∙ rows_by table number program.events unit.kind w q is.kind
-    ∙ ap (λ (test : ℕ → Bool). fluent_rows (row test w q ∷ [])) (fun_ext λ t. holds_there program history standing number t unit is.place is.kind)
-
--- left of right
-pub in_order : (program : Program) → left program.plan 0 ≤ right program.plan 0
-in_order program = omega arith
+    ∙ ap (λ (test : ℕ → Bool). fluent_rows (row test w q ∷ []))
+    (fun_ext λ t. holds_there program history occs plain.sound are number t unit is.at is.kind)
 
 -- the rows of the units are those that are published
-pub published_rows : (program : Program) (history : List Entry) (standing : List (List ℕ)) → IsPlain program →
-    standing ≡ standing_rows history program.events (left program.plan 0) (right program.plan 0) →
-    map (λ unit. rows_of_unit standing unit.kind (left program.plan 0) (right program.plan 0)) program.units ≡ (publication program history 0).rows
-published_rows program history standing plain is =
+pub published_rows : (program : Program) (history : List Entry) (occs : List Occ) → IsPlain program →
+    AreStanding history (left program.plan 0) (right program.plan 0) occs →
+    map (λ unit. rows_of_unit occs unit.kind (left program.plan 0) (right program.plan 0)) program.units ≡ (publication program history 0).rows
+published_rows program history occs plain are =
     let w = left program.plan 0 in
     let q = right program.plan 0 in
-    sym (ap (λ (table : Table). rows_of_table program table w q) (table_is program history standing plain.layers (in_order program) is)
-    ∙ map_places
-    (λ (unit : ℕ × Unit). rows_of_kind (layer_table program history standing) unit.0 (value_count (slice_get program.names unit.1.name)) unit.1.kind w q)
-    (λ (unit : Unit). rows_of_unit standing unit.kind w q) 0 program.units
-    (λ k n unit at found. rows_at program history standing n unit
+    sym (map_places
+    (λ (unit : ℕ × Unit). rows_of_kind (query_table program history 0) unit.0 (value_count (slice_get program.names unit.1.name)) unit.1.kind w q)
+    (λ (unit : Unit). rows_of_unit occs unit.kind w q) 0 program.units
+    (λ k n unit at found. rows_at program history occs n unit plain are
     (plain_unit program n unit plain (ap (slice_get program.units) (let same : n ≡ k = omega arith in same) ∙ found))))

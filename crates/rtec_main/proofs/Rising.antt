@@ -2,7 +2,8 @@
 use Rattle.std.proofs.Common.{◌≡◌, ℕ, ◌+◌, ◌<◌, ◌≤◌, Bool, true, false, cond, ◌&&◌, ◌||◌, leb, ltb, eqb, List, [], ◌∷◌, length, get_or, refl, sym, ◌∙◌, ap, arith, add-one}
 use Rattle.std.specs.List.Sorted.{IsStrictlyIncreasing, IsSorted}
 use Rattle.std.specs.Ordering.{nat_cmp}
-use Rattle.std.specs.List.{dedup, dedup_from}
+use Rattle.std.specs.List.{dedup, dedup_from, list_any}
+use Rattle.std.proofs.lemmas.Bool.{eqb-true}
 use Rattle.std.proofs.lemmas.Bool.Decides.{nat_tests}
 use Rattle.std.proofs.lemmas.Map.Keys.{IsStrictlyIncreasing-dedup}
 use Rattle.span_algebra.specs.Normal.{IsRisingFrom, IsRising}
@@ -27,23 +28,28 @@ rising_from floor (x ∷ rest) low up =
 pub dedup_rises : (xs : List ℕ) → IsSorted nat_cmp xs → IsRising (dedup eqb xs)
 dedup_rises xs sorted = rising_from 0 (dedup eqb xs) (λ some. omega arith) (IsStrictlyIncreasing-dedup xs sorted)
 
-kept_twice : (x k t : ℕ) (b : Bool) → eqb x k ≡ true → (eqb k t || b) ≡ (eqb k t || (eqb x t || b))
-kept_twice x k t true same = grind (arith, nat_tests)
-kept_twice x k t false same = grind (arith, nat_tests)
+kept_twice : (p : Bool) (q r : Bool) → p ≡ q → (p || r) ≡ (p || (q || r))
+kept_twice true q r same = refl
+kept_twice false q r same = ap (λ (b : Bool). b || r) same
 
-dedup_by : (k x : ℕ) (xs : List ℕ) (t : ℕ) (b : Bool) → eqb x k ≡ b → contains (dedup_from eqb k xs) t ≡ (eqb k t || contains xs t) →
-    contains (dedup_from eqb x xs) t ≡ (eqb x t || contains xs t) →
-    contains (cond b (dedup_from eqb k xs) (k ∷ dedup_from eqb x xs)) t ≡ (eqb k t || (eqb x t || contains xs t))
-dedup_by k x xs t true same old new = old ∙ kept_twice x k t (contains xs t) same
-dedup_by k x xs t false same old new = ap (λ (b : Bool). eqb k t || b) new
+module _ {X : Type 0} (same : X → X → Bool) (test : X → Bool) (alike : (x y : X) → same x y ≡ true → test x ≡ test y) where
+  dedup_by : (k x : X) (xs : List X) (b : Bool) → same x k ≡ b → list_any test (dedup_from same k xs) ≡ (test k || list_any test xs) →
+      list_any test (dedup_from same x xs) ≡ (test x || list_any test xs) →
+      list_any test (cond b (dedup_from same k xs) (k ∷ dedup_from same x xs)) ≡ (test k || (test x || list_any test xs))
+  dedup_by k x xs true is old new = old ∙ kept_twice (test k) (test x) (list_any test xs) (sym (alike x k is))
+  dedup_by k x xs false is old new = ap (λ (b : Bool). test k || b) new
 
-contains-dedup_from : (k : ℕ) (xs : List ℕ) (t : ℕ) → contains (dedup_from eqb k xs) t ≡ (eqb k t || contains xs t)
-contains-dedup_from k [] t = refl
-contains-dedup_from k (x ∷ xs) t = dedup_by k x xs t (eqb x k) refl (contains-dedup_from k xs t) (contains-dedup_from x xs t)
+  list_any-dedup_from : (k : X) (xs : List X) → list_any test (dedup_from same k xs) ≡ (test k || list_any test xs)
+  list_any-dedup_from k [] = refl
+  list_any-dedup_from k (x ∷ xs) = dedup_by k x xs (same x k) refl (list_any-dedup_from k xs) (list_any-dedup_from x xs)
+
+  -- dropping repeats keeps whether an item passes a test that cannot tell repeats apart
+  pub list_any-dedup : (xs : List X) → list_any test (dedup same xs) ≡ list_any test xs
+  list_any-dedup [] = refl
+  list_any-dedup (x ∷ xs) = list_any-dedup_from x xs
 
 pub contains-dedup : (xs : List ℕ) (t : ℕ) → contains (dedup eqb xs) t ≡ contains xs t
-contains-dedup [] t = refl
-contains-dedup (x ∷ xs) t = contains-dedup_from x xs t
+contains-dedup xs t = list_any-dedup eqb (λ y. eqb y t) (λ x y is. ap (λ (n : ℕ). eqb n t) (eqb-true x y is)) xs
 
 points_from : (floor : ℕ) (xs : List ℕ) → IsRisingFrom floor xs → ArePointsFrom floor xs
 points_from floor [] rising = tt

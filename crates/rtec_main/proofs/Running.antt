@@ -1,52 +1,82 @@
--- What a run that came to its report says.
-use Rattle.std.proofs.Common.{◌≡◌, ℕ, List, take, Option, Some, ◌∙◌, ap, subst}
+-- What the answer of a task says of a run.
+use Rattle.std.proofs.Common.{◌≡◌, inl, inr, ℕ, true, false, List, map, Option, Err}
 use Rattle.std.specs.Prelude.{IfSome}
-use Rattle.rt_base.specs.Outside.{Rose, with_bytes}
-use Rattle.ground_types.specs.declared.entries.Command.{Command}
-use Rattle.ground_types.specs.declared.program.Program.{Program}
-use Rattle.rtec_main.specs.Plain.{described, Describes}
-use Rattle.rtec_main.specs.Script.{script_of}
-use Rattle.rtec_main.specs.Report.{report_text}
-use Rattle.rtec_main.specs.Run.{World, Files, IsReport, MeansOfWords, WritesReport, WritesPart, files_of}
+use Rattle.std.proofs.lemmas.Option.{IfSome_then}
+use Rattle.rule_read.specs.Forms.{plain}
+use Rattle.domain_decl.specs.Accepted.{plain_checked}
+use Rattle.stream_read.specs.declared.script.Script.{Script}
+use Rattle.rtec_main.specs.declared.inputs.Description.{Description}
+use Rattle.rtec_main.specs.declared.script.ScriptRefused.{ScriptRefused}
 use Rattle.rtec_main.specs.declared.status.Status.TheVariants as status
+use Rattle.rtec_main.specs.Described.{IsDescribed, Describes}
+use Rattle.rtec_main.specs.Built.{is_built}
+use Rattle.rtec_main.specs.Script.{commands_of, IsPlainScript}
+use Rattle.rtec_main.specs.Report.{report_text}
+use Rattle.rtec_main.specs.GroundText.{ground_text}
+use Rattle.rtec_main.specs.Reads.{IsDescriptionOf, IsSoundDescription, IsWhyNoScript, IsScriptOf, script_status}
+use Rattle.rtec_main.specs.Run.{World, Recognise, Runs, IsReport, IsGrounding}
+use Rattle.rtec_main.specs.Tasks.{Gives}
+use Rattle.rtec_main.proofs.Refusals.{script_says}
+use Rattle.rtec_main.proofs.PlainScripts.{parts_plain}
 
--- what was made of the two inputs, the script's bytes being told by the inputs as they were when it was read
-pub record IsMade (old : World) (later : List ℕ → Option (List ℕ)) (files : Files) (program : Program) (commands lent : List Command) (text : List ℕ) : Type 0 where
-  pub describes : IfSome (old.bytes files.description) (λ d. described d ≡ Describes program)
-  pub scripted : IfSome (later files.script) (λ s. script_of program s ≡ Some commands)
-  pub same : later files.script ≡ old.bytes files.script
-  pub lent_is : lent ≡ commands
-  pub text_is : text ≡ report_text program lent 0
+-- ---- the answers of `report_of` and `grounding_of`
 
-is_report : (old : World) (later : List ℕ → Option (List ℕ)) (files : Files) (program : Program) (commands lent : List Command) (text : List ℕ) →
-    IsMade old later files program commands lent text → IsReport old files text
-is_report old later files program commands lent text made = record {
-  program = program;
-  commands = commands;
-  is_described = made.describes;
-  is_script = subst (λ (b : Option (List ℕ)). IfSome b (λ s. script_of program s ≡ Some commands)) made.same made.scripted;
-  is = made.text_is ∙ ap (λ (c : List Command). report_text program c 0) made.lent_is;
+-- a description that was taken, where its bytes are told
+found_described : (bytes : Option (List ℕ)) (found : Description) → IfSome bytes (λ text. IsDescriptionOf text found)
+    → IfSome bytes (λ text. IsDescribed text (Describes (map plain found.syntax.statements) (plain_checked found.checked) found.layers.of_name))
+found_described bytes found is = IfSome_then bytes is (λ text of. of.described)
+
+runs_by : (world : World) (name : List ℕ) (found : Description) → IsSoundDescription found → IfSome (world.bytes name) (λ text. IsDescriptionOf text found)
+    → is_built (plain_checked found.checked) ≡ true → Runs world name found.program
+runs_by world name found sound is built = record {
+  statements = map plain found.syntax.statements;
+  checked = plain_checked found.checked;
+  of_name = found.layers.of_name;
+  is_described = found_described (world.bytes name) found is;
+  is_built = built;
+  is_program = sound.is_program;
 }
 
-pub done : (old new : World) (later : List ℕ → Option (List ℕ)) (words : List (List ℕ)) (files : Files) (program : Program) (commands lent : List Command) (text written : List ℕ) →
-    Some files ≡ files_of words → IsMade old later files program commands lent text → written ≡ text → new.taken ≡ with_bytes written old.taken →
-    MeansOfWords old new (files_of words) status.Done
-done old new later words files program commands lent text written named made same taken =
-    let writes : WritesReport old new files = record {
-      text = text;
-      is_report = is_report old later files program commands lent text made;
-      taken = taken ∙ ap (λ (t : List ℕ). with_bytes t old.taken) same;
-    } in
-    subst (λ (o : Option Files). MeansOfWords old new o status.Done) named writes
+-- a description of a form that does not run
+pub not_built : (old new : World) (name script : List ℕ) (found : Description) → IfSome (old.bytes name) (λ text. IsDescriptionOf text found)
+    → is_built (plain_checked found.checked) ≡ false → Gives old new (Recognise name script) (Err (status.NotBuilt 0))
+not_built old new name script found is built = inr (inr (record {
+  statements = map plain found.syntax.statements;
+  checked = plain_checked found.checked;
+  of_name = found.layers.of_name;
+  is_described = found_described (old.bytes name) found is;
+  is_built = built;
+}))
 
-pub failed : (old new : World) (later : List ℕ → Option (List ℕ)) (words : List (List ℕ)) (files : Files) (program : Program) (commands lent : List Command) (text written : List ℕ) →
-    Some files ≡ files_of words → IsMade old later files program commands lent text → written ≡ text → Rose old.write_faults new.write_faults →
-    (n : ℕ) × (new.taken ≡ with_bytes (take n written) old.taken) → MeansOfWords old new (files_of words) status.WriteFault
-failed old new later words files program commands lent text written named made same rose part =
-    let writes : WritesPart old new files = record {
-      text = text;
-      count = part.0;
-      is_report = is_report old later files program commands lent text made;
-      taken = part.1 ∙ ap (λ (t : List ℕ). with_bytes (take part.0 t) old.taken) same;
-    } in
-    subst (λ (o : Option Files). MeansOfWords old new o status.WriteFault) named (rose, writes)
+-- a refused script
+pub refused_script : (old new : World) (name script : List ℕ) (found : Description) → IsSoundDescription found → IfSome (old.bytes name) (λ text. IsDescriptionOf text found)
+    → is_built (plain_checked found.checked) ≡ true → (refused : ScriptRefused)
+    → IsWhyNoScript (old.bytes script) (old.faults script) (new.faults script) found.program refused
+    → Gives old new (Recognise name script) (Err (script_status refused))
+refused_script old new name script found sound is built refused why =
+    elim (script_says old new name script found.program (runs_by old name found sound is built) refused why) [ inl e ↦ inl e | inr says ↦ inr (inr says) ]
+
+-- a report
+pub report_given : (old : World) (name script : List ℕ) (found : Description) → IsSoundDescription found → IfSome (old.bytes name) (λ text. IsDescriptionOf text found)
+    → is_built (plain_checked found.checked) ≡ true
+    → (given : Script) → IfSome (old.bytes script) (λ text. IsScriptOf found.program text given) → IsPlainScript (commands_of given.commands)
+    → (text : List ℕ) → text ≡ report_text found.program (commands_of given.commands) given.ignored → IsReport old name script text
+report_given old name script found sound is built given scripted parts text e = record {
+  program = found.program;
+  script = given;
+  runs = runs_by old name found sound is built;
+  is_script = IfSome_then (old.bytes script) scripted (λ text of. (of.short, of.is));
+  is_plain = parts_plain (commands_of given.commands) parts;
+  is = e;
+}
+
+-- a ground text
+pub grounding_given : (old : World) (name : List ℕ) (found : Description) → IfSome (old.bytes name) (λ text. IsDescriptionOf text found)
+    → (text : List ℕ) → text ≡ ground_text (map plain found.syntax.statements) (plain_checked found.checked) found.layers.of_name → IsGrounding old name text
+grounding_given old name found is text e = record {
+  statements = map plain found.syntax.statements;
+  checked = plain_checked found.checked;
+  of_name = found.layers.of_name;
+  is_described = found_described (old.bytes name) found is;
+  is = e;
+}

@@ -1,34 +1,28 @@
 -- What stands after adds alone, and the occurrences that entries tell.
-use Rattle.std.proofs.Common.{◌≡◌, ℕ, ◌+◌, ◌≤◌, Bool, true, false, cond, not, ◌&&◌, ◌||◌, leb, ltb, eqb, List, [], ◌∷◌, ◌++◌, reverse, Option, Some, None, map, refl, sym, ◌∙◌, ap, ap₂, arith}
-use Rattle.std.specs.List.{list_any, list_all, find, filter_map, cons_option, range_with_len}
-use Rattle.std.proofs.Math.Path.{fun_ext}
+use Rattle.std.proofs.Common.{◌≡◌, ℕ, ◌≤◌, Bool, true, false, cond, not, ◌&&◌, ◌||◌, leb, ltb, eqb, List, [], ◌∷◌, ◌++◌, reverse, Option, Some, None, refl, sym, ◌∙◌, ap, arith}
+use Rattle.std.specs.List.{list_any, list_all, find, filter_map, cons_option, dedup}
+use Rattle.std.specs.List.Sorted.{IsPermutation, IsSorted, IsStrictlySortedBy}
 use Rattle.std.proofs.Math.Bool.{or-false, and-true, and-false}
 use Rattle.std.proofs.lemmas.Bool.Decides.{nat_tests}
 use Rattle.std.proofs.lemmas.List.Folds.{list_any-append}
-use Rattle.std.proofs.lemmas.List.FromFn.{map-range_with_len_more}
 use Rattle.std.proofs.lemmas.List.Sums.{AllPass-from_list_all, list_all-from_AllPass}
 use Rattle.std.proofs.lemmas.List.Sorted.{IsPermutation-reverse, All-permutation, list_any-IsPermutation}
 use Rattle.ground_types.specs.History.{is_forgotten, counts_for, is_add, stands, before_seal}
-use Rattle.ground_types.specs.Members.{contains}
 use Rattle.ground_types.specs.Recognition.{is_among}
-use Rattle.ground_types.specs.Rows.{points}
-use Rattle.ground_types.proofs.Members.{and_left, and_right}
-use Rattle.span_algebra.specs.Normal.{IsRising}
 use Rattle.ground_types.specs.declared.entries.Act.TheVariants.{Add, Revoke}
 use Rattle.ground_types.specs.declared.entries.Entry.{Entry}
 use Rattle.ground_types.specs.declared.entries.Entry.TheVariants.{Fed, Seal}
 use Rattle.ground_types.specs.declared.entries.Occ.{Occ}
-use Rattle.rtec_main.specs.Recognised.{is_fed_add, IsPlainHistory, occurrence_in, standing_rows}
+use Rattle.rtec_main.specs.Recognised.{is_fed_add, IsPlainHistory, occurrence_in, points_of, AreStanding}
+use Rattle.rtec_main.proofs.InOrder.{by_event, is_same, in_order, order_of, points_rise, contains_points, among_sorted}
 use Rattle.rtec_main.proofs.Rising.{points_by}
 
 -- the entries before the seal are the adds
-before_is : (events : ℕ) (adds : List Entry) → list_all (is_fed_add events) adds ≡ true → before_seal (adds ++ Seal 0 ∷ []) 0 ≡ adds
-before_is events [] are = refl
-before_is events (Fed feeder Add e at reply ∷ rest) are =
-    ap (λ (r : List Entry). Fed feeder Add e at reply ∷ r)
-    (before_is events rest (and_right (ltb e events) (list_all (is_fed_add events) rest) are))
-before_is events (Fed feeder Revoke e at reply ∷ rest) are = cc
-before_is events (Seal number ∷ rest) are = cc
+before_is : (adds : List Entry) → list_all is_fed_add adds ≡ true → before_seal (adds ++ Seal 0 ∷ []) 0 ≡ adds
+before_is [] are = refl
+before_is (Fed feeder Add e at reply ∷ rest) are = ap (λ (r : List Entry). Fed feeder Add e at reply ∷ r) (before_is rest are)
+before_is (Fed feeder Revoke e at reply ∷ rest) are = cc
+before_is (Seal number ∷ rest) are = cc
 
 first_is_add : (feeder e at : ℕ) (reply : _) (b any : Bool) (found : Option Entry) → is_add found ≡ any →
     is_add (cond b (Some (Fed feeder Add e at reply)) found) ≡ (b || any)
@@ -36,32 +30,30 @@ first_is_add feeder e at reply true any found is = refl
 first_is_add feeder e at reply false any found is = is
 
 -- of adds, the first that passes a test is an add
-found_is_add : (events : ℕ) (test : Entry → Bool) (xs : List Entry) → list_all (is_fed_add events) xs ≡ true → is_add (find test xs) ≡ list_any test xs
-found_is_add events test [] are = refl
-found_is_add events test (Fed feeder Add e at reply ∷ rest) are =
-    first_is_add feeder e at reply (test (Fed feeder Add e at reply)) (list_any test rest) (find test rest)
-    (found_is_add events test rest (and_right (ltb e events) (list_all (is_fed_add events) rest) are))
-found_is_add events test (Fed feeder Revoke e at reply ∷ rest) are = cc
-found_is_add events test (Seal number ∷ rest) are = cc
+found_is_add : (test : Entry → Bool) (xs : List Entry) → list_all is_fed_add xs ≡ true → is_add (find test xs) ≡ list_any test xs
+found_is_add test [] are = refl
+found_is_add test (Fed feeder Add e at reply ∷ rest) are =
+    first_is_add feeder e at reply (test (Fed feeder Add e at reply)) (list_any test rest) (find test rest) (found_is_add test rest are)
+found_is_add test (Fed feeder Revoke e at reply ∷ rest) are = cc
+found_is_add test (Seal number ∷ rest) are = cc
 
-stands_by : (events : ℕ) (adds : List Entry) (event t : ℕ) → list_all (is_fed_add events) adds ≡ true →
-    stands adds event t ≡ list_any (counts_for event t) adds
-stands_by events adds event t are =
-    let turned : list_all (is_fed_add events) (reverse adds) ≡ true =
-    list_all-from_AllPass (is_fed_add events) (reverse adds)
-    (All-permutation (λ (x : Entry). is_fed_add events x ≡ true) adds (reverse adds) (IsPermutation-reverse adds) (AllPass-from_list_all (is_fed_add events) adds are)) in
-    found_is_add events (counts_for event t) (reverse adds) turned
+stands_by : (adds : List Entry) (event t : ℕ) → list_all is_fed_add adds ≡ true → stands adds event t ≡ list_any (counts_for event t) adds
+stands_by adds event t are =
+    let turned : list_all is_fed_add (reverse adds) ≡ true =
+    list_all-from_AllPass is_fed_add (reverse adds)
+    (All-permutation (λ (x : Entry). is_fed_add x ≡ true) adds (reverse adds) (IsPermutation-reverse adds) (AllPass-from_list_all is_fed_add adds are)) in
+    found_is_add (counts_for event t) (reverse adds) turned
     ∙ sym (list_any-IsPermutation (counts_for event t) adds (reverse adds) (IsPermutation-reverse adds))
 
 -- in a plain history an event stands at the seal where some entry counts for it
-pub stands_where_told : (events : ℕ) (history : List Entry) → IsPlainHistory events history → (event t : ℕ) →
+pub stands_where_told : (history : List Entry) → IsPlainHistory history → (event t : ℕ) →
     stands (before_seal history 0) event t ≡ list_any (counts_for event t) history
-stands_where_told events history plain event t =
+stands_where_told history plain event t =
     let before : before_seal history 0 ≡ plain.adds =
-    ap (λ (h : List Entry). before_seal h 0) plain.is ∙ before_is events plain.adds plain.are_adds in
+    ap (λ (h : List Entry). before_seal h 0) plain.is ∙ before_is plain.adds plain.are_adds in
     let sealed : list_any (counts_for event t) history ≡ list_any (counts_for event t) plain.adds =
     ap (list_any (counts_for event t)) plain.is ∙ list_any-append (counts_for event t) plain.adds (Seal 0 ∷ []) ∙ or-false _ in
-    ap (λ (h : List Entry). stands h event t) before ∙ stands_by events plain.adds event t plain.are_adds ∙ sym sealed
+    ap (λ (h : List Entry). stands h event t) before ∙ stands_by plain.adds event t plain.are_adds ∙ sym sealed
 
 inside_hit : (e at event t w q : ℕ) (b : Bool) → (ltb w at && leb at q) ≡ true →
     ((eqb e event && eqb at t) || (ltb w t && leb t q && b)) ≡ (ltb w t && leb t q && ((eqb e event && eqb at t) || b))
@@ -97,47 +89,16 @@ told_each (Fed feeder act e at reply ∷ rest) event w q t =
     (filter_map (occurrence_in w q) rest) (told_each rest event w q t)
 told_each (Seal number ∷ rest) event w q t = told_each rest event w q t
 
-known_by : (events e at : ℕ) (inside : Bool) (rest : List Occ) → ltb e events ≡ true → list_all (λ occ. ltb occ.event events) rest ≡ true →
-    list_all (λ occ. ltb occ.event events) (cons_option (cond inside (Some (record { event = e; at = at })) None) rest) ≡ true
-known_by events e at true rest here all = ap₂ (λ (a b : Bool). a && b) here all
-known_by events e at false rest here all = all
-
-known_adds : (events w q : ℕ) (adds : List Entry) → list_all (is_fed_add events) adds ≡ true →
-    list_all (λ occ. ltb occ.event events) (filter_map (occurrence_in w q) (adds ++ Seal 0 ∷ [])) ≡ true
-known_adds events w q [] are = refl
-known_adds events w q (Fed feeder Add e at reply ∷ rest) are =
-    known_by events e at (not (is_forgotten reply) && ltb w at && leb at q) (filter_map (occurrence_in w q) (rest ++ Seal 0 ∷ []))
-    (and_left (ltb e events) (list_all (is_fed_add events) rest) are)
-    (known_adds events w q rest (and_right (ltb e events) (list_all (is_fed_add events) rest) are))
-known_adds events w q (Fed feeder Revoke e at reply ∷ rest) are = cc
-known_adds events w q (Seal number ∷ rest) are = cc
-
--- a plain history tells of the events that there are
-pub told_known : (events w q : ℕ) (history : List Entry) (told : List Occ) → IsPlainHistory events history →
-    told ≡ filter_map (occurrence_in w q) history → list_all (λ occ. ltb occ.event events) told ≡ true
-told_known events w q history told plain is =
-    ap (list_all (λ (occ : Occ). ltb occ.event events)) (is ∙ ap (filter_map (occurrence_in w q)) plain.is)
-    ∙ known_adds events w q plain.adds plain.are_adds
-
--- the points at which entries count for each of so many events
-abbrev pub told_rows : List Entry → ℕ → ℕ → ℕ → List (List ℕ)
-told_rows history events w q = map (λ event. points (λ t. list_any (counts_for event t) history) w q) (range_with_len 0 events)
-
--- one more event, from its points in any order
-pub told_rows_more : (history : List Entry) (told : List Occ) (event w q : ℕ) (rows more : List (List ℕ)) (row : List ℕ) → w ≤ q →
-    told ≡ filter_map (occurrence_in w q) history → rows ≡ told_rows history event w q →
-    IsRising row → ((t : ℕ) → contains row t ≡ is_among told event t) → more ≡ rows ++ row ∷ [] → more ≡ told_rows history (event + 1) w q
-told_rows_more history told event w q rows more row le all old rising each is =
-    let here : row ≡ points (λ t. list_any (counts_for event t) history) w q =
-    points_by (λ t. list_any (counts_for event t) history) w q row le rising
-    (λ t. each t ∙ ap (λ (l : List Occ). is_among l event t) all ∙ told_each history event w q t) in
-    is ∙ ap₂ (λ (a : List (List ℕ)) (b : List ℕ). a ++ b ∷ []) old here
-    ∙ sym (map-range_with_len_more (λ event. points (λ t. list_any (counts_for event t) history) w q) 0 event event (omega arith))
-
--- the points at which entries count for all events are those at which they stand
-pub told_rows_stand : (history : List Entry) (event events w q : ℕ) (rows : List (List ℕ)) → IsPlainHistory events history → event ≡ events →
-    rows ≡ told_rows history event w q → rows ≡ standing_rows history events w q
-told_rows_stand history event events w q rows plain all is =
-    is ∙ ap (λ (n : ℕ). told_rows history n w q) all
-    ∙ ap (λ (f : ℕ → List ℕ). map f (range_with_len 0 events))
-    (fun_ext λ event. ap (λ (test : ℕ → Bool). points test w q) (fun_ext λ t. sym (stands_where_told events history plain event t)))
+-- sorted and without repeats, the occurrences that a plain history tells are those that stand
+pub standing_are : (history : List Entry) (w q : ℕ) (told sorted : List Occ) → IsPlainHistory history → w ≤ q →
+    told ≡ filter_map (occurrence_in w q) history → IsPermutation told sorted → IsSorted by_event sorted → AreStanding history w q (dedup is_same sorted)
+standing_are history w q told sorted plain le all permuted ordered =
+    let occs : List Occ = dedup is_same sorted in
+    let rising : IsStrictlySortedBy by_event occs = in_order sorted ordered in
+    record {
+      order = order_of occs rising;
+      points = λ event. points_by (stands (before_seal history 0) event) w q (points_of occs event) le (points_rise event occs rising)
+          (λ t. contains_points occs event t ∙ among_sorted told sorted event t permuted
+          ∙ ap (λ (l : List Occ). is_among l event t) all ∙ told_each history event w q t
+          ∙ ap (λ (b : Bool). ltb w t && leb t q && b) (sym (stands_where_told history plain event t)));
+    }

@@ -1,11 +1,12 @@
 -- The first run, from its two texts to its report: each equation holds by computation alone.
 use Rattle.std.specs.Fmt.{digits}
-use Rattle.std.specs.Prelude.{◌≡◌, ℕ, List, [], ◌∷◌, codes, Some, None, refl}
+use Rattle.std.specs.Prelude.{◌≡◌, ℕ, true, false, List, [], ◌∷◌, codes, refl}
 use Rattle.ground_types.specs.Examples.{lamp}
 use Rattle.ground_types.specs.declared.entries.Act.TheVariants.{Add}
 use Rattle.ground_types.specs.declared.entries.Command.{Command}
 use Rattle.ground_types.specs.declared.entries.Command.TheVariants.{Feed, Seal}
-use Rattle.rtec_main.specs.Plain.{described, Describes, Faulty}
+use Rattle.rtec_main.specs.Described.{IsFaulty}
+use Rattle.rule_read.specs.Forms.{Input}
 use Rattle.rule_read.specs.Bytes.{class_of}
 use Rattle.rule_read.specs.Tokens.{cut}
 use Rattle.rule_read.specs.Sentences.{sentences, first_bad}
@@ -13,7 +14,7 @@ use Rattle.rule_read.specs.Words.{keyword_of}
 use Rattle.rule_read.specs.Reading.{bind, mapped, enclosed_at, row_at, args_at, decl_at, term_at, atom_at, fv_at, event_at, condition_at, unequal_at, body_at, number_at, valued_at, conditions_at, rule_at, form_at, form_of}
 use Rattle.rule_read.specs.Whole.{forms_of}
 use Rattle.rtec_main.specs.declared.status.DescFault.TheVariants as fault
-use Rattle.rtec_main.specs.Script.{script_of}
+use Rattle.rtec_main.specs.Script.{is_plain}
 use Rattle.rtec_main.specs.Report.{text_of_lines, report_text}
 
 abbrev lamp_text : List ℕ
@@ -22,29 +23,24 @@ lamp_text =
     (codes "window(10)." ∷ codes "step(5)." ∷ codes "from(0)." ∷ codes "input up." ∷ codes "input down." ∷ codes "simple on [true]."
     ∷ codes "initiatedAt(on=true) :- happensAt(up)." ∷ codes "terminatedAt(on=true) :- happensAt(down)." ∷ [])
 
-lamp_described : described lamp_text ≡ Describes lamp
-unfolding cut class_of sentences first_bad keyword_of bind mapped enclosed_at row_at args_at decl_at term_at atom_at fv_at event_at condition_at unequal_at body_at number_at valued_at conditions_at rule_at form_at form_of forms_of
-lamp_described = refl
-
 -- a byte that is not permitted, a statement without its dot, and no plan
-lamp_faulty : described (codes "input up;") ≡ Faulty (fault.BadByte 1)
+lamp_faulty : IsFaulty (codes "input up;") (fault.BadByte 1)
 unfolding cut class_of sentences first_bad keyword_of bind mapped enclosed_at row_at args_at decl_at term_at atom_at fv_at event_at condition_at unequal_at body_at number_at valued_at conditions_at rule_at form_at form_of forms_of
 lamp_faulty = refl
 
-lamp_unformed : described (codes "input up") ≡ Faulty (fault.BadStatement 1)
+lamp_unformed : IsFaulty (codes "input up") (fault.BadStatement 1)
 unfolding cut class_of sentences first_bad keyword_of bind mapped enclosed_at row_at args_at decl_at term_at atom_at fv_at event_at condition_at unequal_at body_at number_at valued_at conditions_at rule_at form_at form_of forms_of
 lamp_unformed = refl
 
-lamp_without_plan : described (codes "input up.") ≡ Faulty fault.BadPlan
+lamp_without_plan : IsFaulty (codes "input up.") fault.BadPlan
 unfolding cut class_of sentences first_bad keyword_of bind mapped enclosed_at row_at args_at decl_at term_at atom_at fv_at event_at condition_at unequal_at body_at number_at valued_at conditions_at rule_at form_at form_of forms_of
-lamp_without_plan = refl
+lamp_without_plan = (record { line = 1; form = Input (record { name = codes "up"; args = [] }) } ∷ [], refl, refl)
 
 abbrev first_commands : List Command
 first_commands = Feed 1 Add 0 3 ∷ Feed 1 Add 1 7 ∷ Feed 1 Add 0 9 ∷ Seal ∷ []
 
-first_script :
-    script_of lamp (text_of_lines (codes "add,1,3,up" ∷ codes "add,1,7,down" ∷ codes "add,1,9,up" ∷ codes "seal" ∷ [])) ≡ Some first_commands
-first_script = refl
+it_is_plain : is_plain first_commands ≡ true
+it_is_plain = refl
 
 first_report : report_text lamp first_commands 0
     ≡ text_of_lines
@@ -63,6 +59,9 @@ empty_report : report_text lamp (Seal ∷ []) 0
 unfolding digits
 empty_report = refl
 
--- a script has its seal
-no_seal : script_of lamp [] ≡ None
+-- a script has its seal, and only one, at its end
+no_seal : is_plain [] ≡ false
 no_seal = refl
+
+two_seals : is_plain (Seal ∷ Seal ∷ []) ≡ false
+two_seals = refl

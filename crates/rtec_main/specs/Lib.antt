@@ -1,9 +1,13 @@
-pub mod Texts
-pub mod Plain
+pub mod Described
+pub mod Built
+pub mod Atoms
 pub mod Script
 pub mod Report
 pub mod Printed
 pub mod Recognised
+pub mod GroundText
 pub mod Run
+pub mod Tasks
 pub mod Reads
 pub mod Examples
+pub mod GroundExamples

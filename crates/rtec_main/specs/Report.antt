@@ -1,11 +1,10 @@
 -- *Report text*: what is printed for a list of commands, line by line. It knows nothing of how the lines are made.
-use Rattle.std.specs.Prelude.{ℕ, nat_lt, Bool, true, false, not, ◌&&◌, ◌==◌, if◌then◌else◌, List, [], ◌∷◌, ◌++◌, length, flat_map, fold, find, slice_get, sum_by, count_by, codes, decimal, Option, Some, None}
+use Rattle.std.specs.Prelude.{ℕ, nat_lt, Bool, true, false, not, ◌==◌, if◌then◌else◌, List, [], ◌∷◌, ◌++◌, length, flat_map, fold, slice_get, sum_by, count_by, codes, decimal, Option, Some, None}
 use Rattle.std.specs.List.{range_with_len, zip}
 use Rattle.ground_types.specs.Windows.{left, right}
 use Rattle.ground_types.specs.History.{reply_to, seals, is_seal}
 use Rattle.ground_types.specs.Publication.{PublishedRows, fluent_rows, event_row, publication}
 use Rattle.ground_types.specs.Touched.{evaluations}
-use Rattle.ground_types.specs.Sound.{is_input}
 use Rattle.ground_types.specs.declared.plan.Plan.{Plan}
 use Rattle.ground_types.specs.declared.entries.Act.{Act}
 use Rattle.ground_types.specs.declared.entries.Act.TheVariants.{Add, Revoke}
@@ -18,6 +17,7 @@ use Rattle.ground_types.specs.declared.entries.Command.TheVariants as command
 use Rattle.ground_types.specs.declared.program.Name.{Name}
 use Rattle.ground_types.specs.declared.program.Unit.{Unit}
 use Rattle.ground_types.specs.declared.program.Program.{Program}
+use Rattle.rtec_main.specs.Atoms.{event_atom, unit_atom}
 
 -- the entry of a command after a history: a feed gets its reply, a seal its number, and other commands make none
 abbrev pub entries_of : Plan → List Entry → Command → List Entry
@@ -34,17 +34,6 @@ history_after plan before commands = fold (λ history command. history ++ entrie
 -- as many seals as queries
 abbrev pub history_of : Plan → List Command → List Entry
 history_of plan commands = history_after plan [] commands
-
-abbrev pub word_of : Option Name → List ℕ
-word_of None = []
-word_of (Some name) = name.word
-
--- the atom of a ground input event without arguments, and of a unit without arguments
-abbrev pub event_atom : Program → ℕ → List ℕ
-event_atom program event = word_of (find (λ name. is_input name.kind && (name.first == event)) program.names)
-
-abbrev pub unit_atom : Program → Unit → List ℕ
-unit_atom program unit = word_of (slice_get program.names unit.name)
 
 abbrev pub value_words : Option Name → List (List ℕ)
 value_words None = []

@@ -1,34 +1,40 @@
 -- What a run ends with: one case for each status.
-use Rattle.std.specs.Prelude.{◌≡◌, ◌⊎◌, ℕ, zero, suc, not, Bool, false, ◌&&◌, ◌==◌, if◌then◌else◌, List, [], ◌∷◌, take, codes, IfSome, Option, Some, None}
+use Rattle.std.specs.Prelude.{◌≡◌, ◌⊎◌, ◌≤◌, ◌<◌, ℕ, zero, suc, not, nat_lt, Bool, true, false, ◌&&◌, ◌==◌, if◌then◌else◌, List, [], ◌∷◌, length, take, codes, IfSome, Option, Some, None, Result, Ok, Err}
 use Rattle.std.specs.Str.{bytes_eq}
 use Rattle.rt_base.specs.Outside.{Rose, with_bytes}
-use Rattle.ground_types.specs.declared.entries.Command.{Command}
+use Rattle.rt_base.specs.declared.limit.Limit.TheVariants as limit
 use Rattle.ground_types.specs.declared.program.Program.{Program}
-use Rattle.rtec_main.specs.Plain.{Described, described, TooLong, Faulty, NotPlain, Describes}
-use Rattle.rtec_main.specs.Script.{script_of}
+use Rattle.rule_read.specs.Forms.{PlainStatement}
+use Rattle.domain_decl.specs.Accepted.{PlainChecked}
+use Rattle.stream_read.specs.declared.script.Script.{Script}
+use Rattle.stream_read.specs.declared.script.StreamRefused.{StreamRefused}
+use Rattle.stream_read.specs.declared.script.StreamRefused.TheVariants as refused
+use Rattle.rtec_main.specs.Described.{Described, IsDescribed, TooLong, Faulty, Exceeds, Describes, IsProgramOf}
+use Rattle.rtec_main.specs.Built.{is_built}
+use Rattle.rtec_main.specs.Script.{longest, merged, commands_of, is_plain}
 use Rattle.rtec_main.specs.Report.{report_text}
-use Rattle.rtec_main.specs.declared.status.DescFault.TheVariants as fault
+use Rattle.rtec_main.specs.GroundText.{ground_text}
+use Rattle.rtec_main.specs.declared.status.ScriptFault.TheVariants as fault
 use Rattle.rtec_main.specs.declared.status.Status.{Status}
 use Rattle.rtec_main.specs.declared.status.Status.TheVariants as status
-use Rattle.rt_base.specs.declared.limit.Limit.TheVariants as limit
 
 -- a file name is not empty and does not begin with `-`
 abbrev pub is_file : List ℕ → Bool
 is_file [] = false
 is_file (c ∷ cs) = not (c == 45)
 
--- The two files of `recognise DESC SCRIPT`.
-pub record Files : Type 0 where
-  pub description : List ℕ
-  pub script : List ℕ
+-- What words ask for: `recognise DESC SCRIPT` or `ground DESC`.
+pub data Task : Type 0 where
+  Recognise : List ℕ → List ℕ → Task
+  Ground : List ℕ → Task
 
--- the files that the words name, where they are of that form
-abbrev pub files_of : List (List ℕ) → Option Files
-files_of (command ∷ description ∷ script ∷ []) =
-    if bytes_eq command (codes "recognise") && is_file description && is_file script
-    then Some (record { description = description; script = script })
-    else None
-files_of words = None
+-- the task of the words, where they are of one of these forms
+abbrev pub task_of : List (List ℕ) → Option Task
+task_of (command ∷ description ∷ script ∷ []) =
+    if bytes_eq command (codes "recognise") && is_file description && is_file script then Some (Recognise description script) else None
+task_of (command ∷ description ∷ []) =
+    if bytes_eq command (codes "ground") && is_file description then Some (Ground description) else None
+task_of words = None
 
 -- what inputs tell and how often they failed, and what a sink took and how often it failed
 pub record World : Type 0 where
@@ -41,87 +47,172 @@ pub record World : Type 0 where
 abbrev pub Told : World → List ℕ → (List ℕ → Type 0) → Type 0
 Told world name P = IfSome (world.bytes name) P
 
--- where its bytes are told, the description describes the program; where not, any program will do
-abbrev pub IsDescribed : World → Files → Program → Type 0
-IsDescribed world files program = Told world files.description (λ text. described text ≡ Describes program)
+-- ---- what is written
 
--- where its bytes are told, the script is plain and has the commands
-abbrev pub IsScript : World → Files → Program → List Command → Type 0
-IsScript world files program commands = Told world files.script (λ text. script_of program text ≡ Some commands)
+-- a program of the description, as far as its bytes are told, which is of a form that runs
+pub record Runs (world : World) (description : List ℕ) (program : Program) : Type 0 where
+  pub statements : List PlainStatement
+  pub checked : PlainChecked
+  pub of_name : List ℕ
+  pub is_described : Told world description (λ text. IsDescribed text (Describes statements checked of_name))
+  pub is_built : is_built checked ≡ true
+  pub is_program : IsProgramOf checked of_name program
 
--- the text is the report of the files, as far as they are told
-pub record IsReport (world : World) (files : Files) (text : List ℕ) : Type 0 where
+-- the commands and the count of ignored records of the script, as far as its bytes are told
+abbrev pub IsScript : World → List ℕ → Program → Script → Type 0
+IsScript world name program script = Told world name (λ text. (length text ≤ longest) × (merged program text ≡ Ok script))
+
+-- the text is the report of the two files
+pub record IsReport (world : World) (description script_name text : List ℕ) : Type 0 where
   pub program : Program
-  pub commands : List Command
-  pub is_described : IsDescribed world files program
-  pub is_script : IsScript world files program commands
-  pub is : text ≡ report_text program commands 0
+  pub script : Script
+  pub runs : Runs world description program
+  pub is_script : IsScript world script_name program script
+  pub is_plain : is_plain (commands_of script.commands) ≡ true
+  pub is : text ≡ report_text program (commands_of script.commands) script.ignored
+
+-- the text is the ground text of the file
+pub record IsGrounding (world : World) (description text : List ℕ) : Type 0 where
+  pub statements : List PlainStatement
+  pub checked : PlainChecked
+  pub of_name : List ℕ
+  pub is_described : Told world description (λ bytes. IsDescribed bytes (Describes statements checked of_name))
+  pub is : text ≡ ground_text statements checked of_name
+
+-- the text is the one that the task asks for
+abbrev pub IsText : World → Task → List ℕ → Type 0
+IsText world (Recognise description script) text = IsReport world description script text
+IsText world (Ground description) text = IsGrounding world description text
 
 -- nothing was written, and no write failed
 abbrev pub WritesNothing : World → World → Type 0
 WritesNothing old new = (new.taken ≡ old.taken) × (new.write_faults ≡ old.write_faults)
 
--- the sink has its old bytes followed by the whole report
-pub record WritesReport (old new : World) (files : Files) : Type 0 where
+-- the sink has its old bytes followed by the whole text
+pub record WritesAll (old new : World) (task : Task) : Type 0 where
   pub text : List ℕ
-  pub is_report : IsReport old files text
+  pub is_text : IsText old task text
   pub taken : new.taken ≡ with_bytes text old.taken
 
--- the sink has its old bytes followed by a beginning of the report
-pub record WritesPart (old new : World) (files : Files) : Type 0 where
+-- the sink has its old bytes followed by a beginning of the text
+pub record WritesPart (old new : World) (task : Task) : Type 0 where
   pub text : List ℕ
   pub count : ℕ
-  pub is_report : IsReport old files text
+  pub is_text : IsText old task text
   pub taken : new.taken ≡ with_bytes (take count text) old.taken
 
--- What a status says, where the words name two files; input 0 is the description and 1 the script. Each case but want of
--- memory repeats that the tests before it passed.
-abbrev pub Means : World → World → Files → Status → Type 0
-Means old new files status.Done = WritesReport old new files
-Means old new files status.BadWords = ⊥
-Means old new files (status.BadDescription (fault.Cyclic line)) = ⊥
-Means old new files (status.BadDescription why) = Told old files.description (λ text. described text ≡ Faulty why) × WritesNothing old new
-Means old new files (status.BadScript input place fault) = ⊥
-Means old new files (status.TooLarge limit.Description) = Told old files.description (λ text. described text ≡ TooLong) × WritesNothing old new
-Means old new files (status.TooLarge other) = ⊥
-Means old new files (status.ReadFault zero) = Rose (old.faults files.description) (new.faults files.description) × WritesNothing old new
-Means old new files (status.ReadFault (suc zero)) =
-    Rose (old.faults files.script) (new.faults files.script) × ((program : Program) × IsDescribed old files program) × WritesNothing old new
-Means old new files (status.ReadFault (suc (suc input))) = ⊥
-Means old new files status.WriteFault = Rose old.write_faults new.write_faults × WritesPart old new files
-Means old new files status.OutOfMemory = WritesNothing old new
-Means old new files (status.Differs number line) = ⊥
-Means old new files (status.NotBuilt zero) = Told old files.description (λ text. described text ≡ NotPlain) × WritesNothing old new
-Means old new files (status.NotBuilt (suc zero)) =
-    ((program : Program) × IsDescribed old files program × Told old files.script (λ text. script_of program text ≡ None)) × WritesNothing old new
-Means old new files (status.NotBuilt (suc (suc input))) = ⊥
+-- ---- why nothing is written
 
--- what a status says: where the words name no files, that they do not, and that nothing else happened
-abbrev pub MeansOfWords : World → World → Option Files → Status → Type 0
+-- What a status says that refuses the description, which is input 0. Its bytes, statements, declarations and cycles are tested
+-- before its limits, and these in their order.
+abbrev pub RefusesDescription : World → World → List ℕ → Status → Type 0
+RefusesDescription old new name (status.BadDescription why) = Told old name (λ text. IsDescribed text (Faulty why))
+RefusesDescription old new name (status.TooLarge limit.Description) = Told old name (λ text. IsDescribed text TooLong)
+RefusesDescription old new name (status.TooLarge limit.Units) = Told old name (λ text. IsDescribed text (Exceeds limit.Units))
+RefusesDescription old new name (status.TooLarge limit.Events) = Told old name (λ text. IsDescribed text (Exceeds limit.Events))
+RefusesDescription old new name (status.TooLarge limit.Assignments) = Told old name (λ text. IsDescribed text (Exceeds limit.Assignments))
+RefusesDescription old new name (status.TooLarge limit.Rules) = Told old name (λ text. IsDescribed text (Exceeds limit.Rules))
+RefusesDescription old new name (status.TooLarge limit.Conditions) = Told old name (λ text. IsDescribed text (Exceeds limit.Conditions))
+RefusesDescription old new name (status.TooLarge limit.Cells) = Told old name (λ text. IsDescribed text (Exceeds limit.Cells))
+RefusesDescription old new name (status.ReadFault zero) = Rose (old.faults name) (new.faults name)
+RefusesDescription old new name other = ⊥
+
+-- the description is accepted and within the limits, and of a form that does not run yet
+pub record RunsNot (world : World) (description : List ℕ) : Type 0 where
+  pub statements : List PlainStatement
+  pub checked : PlainChecked
+  pub of_name : List ℕ
+  pub is_described : Told world description (λ text. IsDescribed text (Describes statements checked of_name))
+  pub is_built : is_built checked ≡ false
+
+-- the description runs, and of its program and the bytes of the script this is so
+pub record Meets (world : World) (description script : List ℕ) (P : Program → List ℕ → Type 0) : Type 0 where
+  pub program : Program
+  pub runs : Runs world description program
+  pub is_script : Told world script (P program)
+
+-- what a status says that refuses the form of an accepted description, or the script, which is input 1
+abbrev pub RefusesScript : World → World → List ℕ → List ℕ → Status → Type 0
+RefusesScript old new description script (status.NotBuilt zero) = RunsNot old description
+RefusesScript old new description script (status.ReadFault (suc zero)) =
+    Rose (old.faults script) (new.faults script) × ((program : Program) × Runs old description program)
+RefusesScript old new description script (status.TooLarge limit.Script) =
+    Meets old description script (λ program text. longest < length text)
+RefusesScript old new description script (status.BadScript (suc zero) place fault.BadRecord) =
+    Meets old description script (λ program text. (length text ≤ longest) × (merged program text ≡ Err (refused.BadRecord place)))
+RefusesScript old new description script (status.TooLarge limit.Commands) =
+    Meets old description script (λ program text. (length text ≤ longest) × (merged program text ≡ Err refused.TooMany))
+RefusesScript old new description script (status.NotBuilt (suc zero)) =
+    Meets old description script
+    (λ program text. (length text ≤ longest) × ((given : Script) × (merged program text ≡ Ok given) × (is_plain (commands_of given.commands) ≡ false)))
+RefusesScript old new description script other = ⊥
+
+-- what a status says that refuses what the task reads. Each case repeats that the tests before it passed.
+abbrev pub Refuses : World → World → Task → Status → Type 0
+Refuses old new (Recognise description script) s = RefusesDescription old new description s ⊎ RefusesScript old new description script s
+Refuses old new (Ground description) s = RefusesDescription old new description s
+
+-- What a status says, where the words ask for something. Want of memory alone has no cause.
+abbrev pub Means : World → World → Task → Status → Type 0
+Means old new task status.Done = WritesAll old new task
+Means old new task status.WriteFault = Rose old.write_faults new.write_faults × WritesPart old new task
+Means old new task status.OutOfMemory = WritesNothing old new
+Means old new task s = Refuses old new task s × WritesNothing old new
+
+-- what a status says: where the words ask for nothing, that they do not, and that nothing else happened
+abbrev pub MeansOfWords : World → World → Option Task → Status → Type 0
 MeansOfWords old new None s = (s ≡ status.BadWords) × (new ≡ old)
-MeansOfWords old new (Some files) s = Means old new files s
+MeansOfWords old new (Some task) s = Means old new task s
 
--- neither an input nor the sink failed in this call
-abbrev pub NoneFailed : World → World → Files → Type 0
-NoneFailed old new files =
-    (Rose (old.faults files.description) (new.faults files.description) → ⊥)
-    × (Rose (old.faults files.script) (new.faults files.script) → ⊥)
-    × (Rose old.write_faults new.write_faults → ⊥)
+-- ---- the other way round: which status told bytes come to
 
-abbrev pub outcome_of_script : Option (List Command) → Status
-outcome_of_script None = status.NotBuilt 1
-outcome_of_script (Some commands) = status.Done
+-- a file was read without a fault
+abbrev pub ReadWell : World → World → List ℕ → Type 0
+ReadWell old new name = Rose (old.faults name) (new.faults name) → ⊥
+
+-- a script that runs or does not
+abbrev pub status_of_plain : Bool → Status
+status_of_plain true = status.Done
+status_of_plain false = status.NotBuilt 1
+
+-- (no script comes to want of memory)
+abbrev pub of_merged : Result Script StreamRefused → Status
+of_merged (Ok given) = status_of_plain (is_plain (commands_of given.commands))
+of_merged (Err (refused.BadRecord place)) = status.BadScript 1 place fault.BadRecord
+of_merged (Err refused.TooMany) = status.TooLarge limit.Commands
+of_merged (Err refused.OutOfMemory) = status.OutOfMemory
+
+-- the status that the bytes of a script come to
+abbrev pub script_outcome : Program → List ℕ → Status
+script_outcome program text = if nat_lt longest (length text) then status.TooLarge limit.Script else of_merged (merged program text)
+
+abbrev pub IsBuiltOutcome : Bool → PlainChecked → List ℕ → List ℕ → Status → Type 0
+IsBuiltOutcome false checked of_name script s = s ≡ status.NotBuilt 0
+IsBuiltOutcome true checked of_name script s = (program : Program) × IsProgramOf checked of_name program × (s ≡ script_outcome program script)
 
 -- the status that a description and the bytes of a script come to
-abbrev pub outcome : Described → List ℕ → Status
-outcome TooLong script = status.TooLarge limit.Description
-outcome (Faulty why) script = status.BadDescription why
-outcome NotPlain script = status.NotBuilt 0
-outcome (Describes program) script = outcome_of_script (script_of program script)
+abbrev pub IsRecogniseOutcome : Described → List ℕ → Status → Type 0
+IsRecogniseOutcome TooLong script s = s ≡ status.TooLarge limit.Description
+IsRecogniseOutcome (Faulty why) script s = s ≡ status.BadDescription why
+IsRecogniseOutcome (Exceeds which) script s = s ≡ status.TooLarge which
+IsRecogniseOutcome (Describes statements checked of_name) script s = IsBuiltOutcome (is_built checked) checked of_name script s
 
--- where the files are told and nothing failed, the status is what their bytes come to, or memory ran out
-abbrev pub Completes : World → World → Option Files → Status → Type 0
+-- the status that a description alone comes to
+abbrev pub ground_outcome : Described → Status
+ground_outcome TooLong = status.TooLarge limit.Description
+ground_outcome (Faulty why) = status.BadDescription why
+ground_outcome (Exceeds which) = status.TooLarge which
+ground_outcome (Describes statements checked of_name) = status.Done
+
+-- Where the files are told and nothing failed, the status is what their bytes come to, or memory ran out. (What a text is as a
+-- description is determined.)
+abbrev pub Completes : World → World → Option Task → Status → Type 0
 Completes old new None s = Unit {0}
-Completes old new (Some files) s =
-    Told old files.description (λ description. Told old files.script (λ script.
-    NoneFailed old new files → (s ≡ outcome (described description) script) ⊎ (s ≡ status.OutOfMemory)))
+Completes old new (Some (Recognise description script)) s =
+    Told old description (λ bytes. Told old script (λ others.
+    ReadWell old new description → ReadWell old new script → (Rose old.write_faults new.write_faults → ⊥) →
+    (s ≡ status.OutOfMemory) ⊎ ((described : Described) × IsDescribed bytes described × IsRecogniseOutcome described others s)))
+Completes old new (Some (Ground description)) s =
+    Told old description (λ bytes.
+    ReadWell old new description → (Rose old.write_faults new.write_faults → ⊥) →
+    (s ≡ status.OutOfMemory) ⊎ ((described : Described) × IsDescribed bytes described × (s ≡ ground_outcome described)))

@@ -1,20 +1,31 @@
-// The two inputs: each is read to its end and refused by one answer.
-ghost use Rattle.std.specs.Prelude.{◌≡◌, ◌≤◌, ℕ, List, length, Some, None, IfOk, IfErr, IfSome};
-ghost use Rattle.rtec_main.specs.Plain.{described, Describes, IsPlain};
-ghost use Rattle.rtec_main.specs.Script.{script_of, IsPlainScript};
-ghost use Rattle.rtec_main.specs.Reads.{RefusesDescription, IsRefused, RefusesScript, description_status, script_status};
+// The description: it is read to its end and refused by one answer, or it has its program.
+ghost use Rattle.std.specs.Prelude.{◌≡◌, ◌≤◌, ℕ, true, List, IfOk, IfErr, IfSome};
+ghost use Rattle.rtec_main.specs.Reads.{IsDescriptionOf, IsSoundDescription, IsDescriptionRefused, has_described_limit, IsWhyNoDescription};
 
-use crate::plain::program_of;
 use crate::reads::{Unread, read_all};
-use crate::script::{LONGEST_SCRIPT, script};
 use crate::status::{DescFault, Status};
-use domain_decl::{DeclRefused, check};
-use ground_types::{Command, Program};
-use rt_base::{Inputs, Limit, OutOfMemory};
-use rule_read::{ReadRefused, read};
+use domain_decl::{Checked, DeclRefused, check};
+use ground_rules::{GroundRefused, ground};
+use ground_types::Program;
+use rt_base::{Inputs, Limit};
+use rule_read::{ReadRefused, Syntax, read};
 use std::alloc::Global;
+use strata_check::{LayerList, StrataRefused, layers};
 
 const LONGEST_DESCRIPTION: usize = 1_048_576;
+
+/// A description that is accepted and within the limits.
+#[derive(Drop)]
+pub struct Description {
+    /// Its statements.
+    pub syntax: Syntax,
+    /// What they declare.
+    pub checked: Checked,
+    /// The layers of its names.
+    pub layers: LayerList,
+    /// Its program.
+    pub program: Program,
+}
 
 /// Why a description is not taken.
 #[derive(Clone, Copy, Debug, PartialEq, Eq)]
@@ -25,19 +36,8 @@ pub enum DescriptionRefused {
     TooLong,
     /// It is not accepted.
     Faulty(DescFault),
-    /// It is of a form that is not built.
-    NotPlain,
-    /// Memory ran out.
-    OutOfMemory,
-}
-
-/// Why a script is not taken.
-#[derive(Clone, Copy, Debug, PartialEq, Eq)]
-pub enum ScriptRefused {
-    /// The count of its faults rose.
-    Fault,
-    /// It is not of the plain form, or is too long for it.
-    NotPlain,
+    /// It exceeds a limit.
+    Exceeds(Limit),
     /// Memory ran out.
     OutOfMemory,
 }
@@ -53,16 +53,6 @@ impl From<Unread> for DescriptionRefused {
             Unread::TooLong => DescriptionRefused::TooLong,
             Unread::OutOfMemory => DescriptionRefused::OutOfMemory,
         }
-    }
-}
-
-impl From<OutOfMemory> for DescriptionRefused {
-    ghost use Rattle.rtec_main.specs.declared.inputs.DescriptionRefused.TheVariants as description;
-
-    ghost from_gives = { λ _ refused. refused ≡ description.OutOfMemory };
-
-    fn from(_: OutOfMemory) -> DescriptionRefused {
-        DescriptionRefused::OutOfMemory
     }
 }
 
@@ -107,92 +97,84 @@ impl From<DeclRefused> for DescriptionRefused {
     }
 }
 
-impl From<Unread> for ScriptRefused {
-    ghost use Rattle.rtec_main.specs.Reads.{unread_script};
+impl From<StrataRefused> for DescriptionRefused {
+    ghost use Rattle.rtec_main.specs.Reads.{unlayered};
 
-    ghost from_gives = { λ unread refused. refused ≡ unread_script unread };
+    ghost from_gives = { λ strata refused. refused ≡ unlayered strata };
 
-    fn from(unread: Unread) -> ScriptRefused {
-        match unread {
-            Unread::Fault => ScriptRefused::Fault,
-            Unread::TooLong => ScriptRefused::NotPlain,
-            Unread::OutOfMemory => ScriptRefused::OutOfMemory,
+    fn from(refused: StrataRefused) -> DescriptionRefused {
+        match refused {
+            StrataRefused::Cyclic { line, .. } => {
+                DescriptionRefused::Faulty(DescFault::Cyclic { line })
+            }
+            StrataRefused::OutOfMemory => DescriptionRefused::OutOfMemory,
         }
     }
 }
 
-/// The status of a refusal of the description, which is input 0.
-pub fn description_status(refused: DescriptionRefused) -> Status
-    ensures { result ≡ description_status refused }
-{
-    match refused {
-        DescriptionRefused::Fault => Status::ReadFault { input: 0 },
-        DescriptionRefused::TooLong => Status::TooLarge {
-            limit: Limit::Description,
-        },
-        DescriptionRefused::Faulty(fault) => Status::BadDescription(fault),
-        DescriptionRefused::NotPlain => Status::NotBuilt { input: 0 },
-        DescriptionRefused::OutOfMemory => Status::OutOfMemory,
+impl From<GroundRefused> for DescriptionRefused {
+    ghost use Rattle.rtec_main.specs.Reads.{ungrounded};
+
+    ghost from_gives = { λ grounding refused. refused ≡ ungrounded grounding };
+
+    fn from(refused: GroundRefused) -> DescriptionRefused {
+        match refused {
+            GroundRefused::TooLarge { limit } => DescriptionRefused::Exceeds(limit),
+            GroundRefused::OutOfMemory => DescriptionRefused::OutOfMemory,
+        }
     }
 }
 
-/// The status of a refusal of the script, which is input 1.
-pub fn script_status(refused: ScriptRefused) -> Status
-    ensures { result ≡ script_status refused }
-{
-    match refused {
-        ScriptRefused::Fault => Status::ReadFault { input: 1 },
-        ScriptRefused::NotPlain => Status::NotBuilt { input: 1 },
-        ScriptRefused::OutOfMemory => Status::OutOfMemory,
+impl From<DescriptionRefused> for Status {
+    ghost use Rattle.rtec_main.specs.Reads.{description_status};
+
+    ghost from_gives = { λ refused status. status ≡ description_status refused };
+
+    fn from(refused: DescriptionRefused) -> Status {
+        match refused {
+            DescriptionRefused::Fault => Status::ReadFault { input: 0 },
+            DescriptionRefused::TooLong => Status::TooLarge {
+                limit: Limit::Description,
+            },
+            DescriptionRefused::Faulty(fault) => Status::BadDescription(fault),
+            DescriptionRefused::Exceeds(limit) => Status::TooLarge { limit },
+            DescriptionRefused::OutOfMemory => Status::OutOfMemory,
+        }
     }
 }
 
-// The program of a description.
-fn description(alloc: Global, text: &[u8]) -> Result<Program, DescriptionRefused>
-    requires { length text.now ≤ 1048576 }
-    ensures plain { IfOk result IsPlain }
-    ensures ok { IfOk result (λ program. described text.now ≡ Describes program) }
-    ensures err { IfErr result (IsRefused (described text.now)) }
+// The description that these bytes are.
+fn description_of(alloc: Global, text: &[u8]) -> Result<Description, DescriptionRefused>
+    ensures ok { IfOk result (IsDescriptionOf text.now) }
+    ensures sound { IfOk result IsSoundDescription }
+    ensures err { IfErr result (IsDescriptionRefused text.now) }
+    ensures limit { IfErr result (λ refused. has_described_limit refused ≡ true) }
 {
     let syntax = read(alloc, text)?;
     let checked = check(alloc, &syntax)?;
-    program_of(alloc, checked)?.ok_or(DescriptionRefused::NotPlain)
+    let layers = layers(alloc, &checked)?;
+    let program = ground(alloc, &checked, &layers)?;
+    Ok(Description {
+        syntax,
+        checked,
+        layers,
+        program,
+    })
 }
 
-/// The program of a description that is read to its end.
+/// The description of this name, which is read to its end.
 pub fn read_description<I: Inputs>(
     alloc: Global,
     inputs: &mut I,
     name: &str,
-) -> Result<Program, DescriptionRefused>
-    ensures plain { IfOk result IsPlain }
-    ensures ok { IfOk result (λ program. IfSome (I.bytes inputs.old name.now) (λ text. described text ≡ Describes program)) }
-    ensures err { IfErr result (RefusesDescription (I.bytes inputs.old name.now) (I.faults inputs.old name.now) (I.faults inputs.new name.now)) }
+) -> Result<Description, DescriptionRefused>
+    ensures sound { IfOk result IsSoundDescription }
+    ensures ok { IfOk result (λ found. IfSome (I.bytes inputs.old name.now) (λ text. IsDescriptionOf text found)) }
+    ensures err { IfErr result (IsWhyNoDescription (I.bytes inputs.old name.now) (I.faults inputs.old name.now) (I.faults inputs.new name.now)) }
+    ensures limit { IfErr result (λ refused. has_described_limit refused ≡ true) }
     ensures same { (other : List ℕ) → I.bytes inputs.new other ≡ I.bytes inputs.old other }
     ensures later { (other : List ℕ) → I.faults inputs.old other ≤ I.faults inputs.new other }
 {
     let text = read_all(alloc, inputs, name, LONGEST_DESCRIPTION)?;
-    description(alloc, &text)
-}
-
-/// The commands of a script that is read to its end.
-pub fn read_script<I: Inputs>(
-    alloc: Global,
-    inputs: &mut I,
-    name: &str,
-    program: &Program,
-) -> Result<Vec<Command>, ScriptRefused>
-    requires { IsPlain program.now }
-    ensures plain { IfOk result (λ commands. IsPlainScript program.now.events commands.items) }
-    ensures ok { IfOk result (λ commands. IfSome (I.bytes inputs.old name.now) (λ text. script_of program.now text ≡ Some commands.items)) }
-    ensures err { IfErr result (RefusesScript (I.bytes inputs.old name.now) (I.faults inputs.old name.now) (I.faults inputs.new name.now) (script_of program.now)) }
-    ensures same { (other : List ℕ) → I.bytes inputs.new other ≡ I.bytes inputs.old other }
-    ensures later { (other : List ℕ) → I.faults inputs.old other ≤ I.faults inputs.new other }
-{
-    let text = read_all(alloc, inputs, name, LONGEST_SCRIPT)?;
-    match script(alloc, program, &text) {
-        Ok(Some(commands)) => Ok(commands),
-        Ok(None) => Err(ScriptRefused::NotPlain),
-        Err(OutOfMemory) => Err(ScriptRefused::OutOfMemory),
-    }
+    description_of(alloc, &text)
 }

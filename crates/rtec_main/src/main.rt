@@ -1,13 +1,14 @@
 //! `rtec`, a recogniser of composite activities over streams of events, after the Run-Time Event Calculus.
-//! Its promise stands on `run`: what is written is the report text of the description and the script, and each other
-//! status but want of memory names its cause. Reading words and inputs, plain programs and scripts, replies and
-//! printing are private parts. `main` makes the real inputs, the real standard output and a gate that holds nobody,
-//! and calls `run`.
+//! Its promise stands on `run`: what is written is the report of a script under a description, or the ground text of a
+//! description, and each other status but want of memory names its cause. Words, inputs, replies, rows and printing are
+//! private parts. `main` makes the real inputs, the real standard output and a gate that holds nobody, and calls `run`.
 #![tactic(auto)]
 
+mod built;
 mod ends;
+mod ground_text;
 mod inputs;
-mod plain;
+mod laws;
 mod printing;
 mod reads;
 mod recognise;
@@ -17,7 +18,6 @@ mod run;
 mod script;
 mod standing;
 mod status;
-mod texts;
 mod words;
 mod writes;
 

@@ -1,19 +1,23 @@
 // The lines of entries, queries and rows. Each `put_` function adds to the end of a text. Where memory runs out, the
 // text keeps what it had, and may have a part of what was to be added behind it.
-ghost use Rattle.std.specs.Prelude.{◌≡◌, ℕ, ◌++◌, ◌&&◌, ◌==◌, find, ◌∷◌, [], map, flat_map, slice_get, codes, decimal, OnOk};
-ghost use Rattle.std.specs.List.{zip};
+ghost use Rattle.std.specs.Prelude.{◌≡◌, ℕ, true, ◌++◌, ◌∷◌, [], map, flat_map, slice_get, codes, decimal, OnOk};
 ghost use Rattle.std.specs.Option.{option_copied};
-ghost use Rattle.ground_types.specs.Sound.{is_input};
+ghost use Rattle.std.specs.List.{list_all};
+ghost use Rattle.ground_types.specs.Publication.{fluent_rows};
+ghost use Rattle.ground_types.specs.Sound.{IsSound};
+ghost use Rattle.domain_decl.specs.Sound.{is_sound_domain};
+ghost use Rattle.rtec_main.specs.Atoms.{entity_word, entity_words, atom_by, event_atom, unit_atom};
 ghost use Rattle.rtec_main.specs.Recognised.{plain_rows};
 ghost use Rattle.simple_fluent.specs.Rows.{pairs};
-ghost use Rattle.rtec_main.specs.Report.{word_of, value_words, act_word, reply_word, span_text, fluent_lines, unit_lines, row_lines, query_line, text_of_lines};
+ghost use Rattle.rtec_main.specs.Report.{value_words, act_word, reply_word, span_text, fluent_lines, unit_lines, row_lines, query_line, text_of_lines};
 ghost use Rattle.rtec_main.specs.Printed.{feed_lines, event_lines};
 
-use crate::plain::is_input;
-use ground_types::{Act, Entry, EventId, Name, Point, Program, Reply, Unit};
+use ground_rules::event_at;
+use ground_types::{Act, Domain, Entry, EventId, Name, Point, Program, Reply, Unit};
 use itoa::{Buffer, Integer};
 use rt_base::{OutOfMemory, Word};
 use span_algebra::{Span, Spans, UnitRows};
+use std::alloc::Global;
 
 /// Adds a text. Refused, it adds nothing.
 pub fn put_text(out: &mut Vec<u8>, text: &str) -> Result<(), OutOfMemory>
@@ -32,36 +36,90 @@ pub fn put_number<I: Integer>(out: &mut Vec<u8>, n: I) -> Result<(), OutOfMemory
     Ok(())
 }
 
-// Whether this is an input, and its first event is this one.
-fn is_input_from(name: &Name, event: EventId) -> bool
-    ensures { result ≡ (is_input name.now.kind && (name.now.first == event)) }
+/// The word of an entity of a domain; empty where there is none.
+pub fn entity_word(domains: &[Domain], domain: u32, entity: u32) -> &str
+    ensures { result.now ≡ entity_word domains.now (domain, entity) }
 {
-    is_input(name.kind) && name.first == event
+    match domains.get(domain as usize) {
+        Some(domain) => match domain.entities.as_slice().get(entity as usize) {
+            Some(word) => word.as_str(),
+            None => "",
+        },
+        None => "",
+    }
 }
 
-// The input whose first event is this one.
-fn input_from(program: &Program, event: EventId) -> Option<&Name>
-    ensures { option_copied result ≡ find (λ name. is_input name.kind && (name.first == event)) program.now.names }
+// Adds further arguments, each behind a comma.
+fn put_further(
+    out: &mut Vec<u8>,
+    domains: &[Domain],
+    places: &[u32],
+    args: &[u32],
+) -> Result<(), OutOfMemory>
+    ensures { OnOk result (out.new.items ≡ out.old.items ++ flat_map (λ word. codes "," ++ word) (entity_words domains.now places.now args.now)) }
 {
-    program
-        .names
-        .as_slice()
-        .iter()
-        .find(|name| is_input_from(name, event))
+    for (domain, entity) in places.iter().zip(args) {
+        put_text(out, ",")?;
+        put_text(out, entity_word(domains, *domain, *entity))?;
+    }
+    Ok(())
 }
 
-// The name of a unit.
-fn name_of<'a>(program: &'a Program, unit: &Unit) -> Option<&'a Name>
+/// Adds the atom of a ground event or a unit: its name, and in parentheses the entities of its arguments.
+pub fn put_atom(
+    out: &mut Vec<u8>,
+    domains: &[Domain],
+    name: &Name,
+    args: &[u32],
+) -> Result<(), OutOfMemory>
+    ensures { OnOk result (out.new.items ≡ out.old.items ++ atom_by domains.now name.now args.now) }
+{
+    put_text(out, name.word.as_str())?;
+    let [domain, places @ ..] = name.args.as_slice() else {
+        return Ok(());
+    };
+    let [first, others @ ..] = args else {
+        return Ok(());
+    };
+    put_text(out, "(")?;
+    put_text(out, entity_word(domains, *domain, *first))?;
+    put_further(out, domains, places, others)?;
+    put_text(out, ")")
+}
+
+// Adds the atom of a ground input event, with a list in which its arguments are made.
+fn put_event_atom(
+    alloc: Global,
+    out: &mut Vec<u8>,
+    program: &Program,
+    event: EventId,
+    args: &mut Vec<u32>,
+) -> Result<(), OutOfMemory>
+    requires sound { IsSound program.now }
+    requires domains { list_all is_sound_domain program.now.domains ≡ true }
+    ensures { OnOk result (out.new.items ≡ out.old.items ++ event_atom program.now event) }
+{
+    match event_at(alloc, program, event, args)? {
+        Some(name) => put_atom(out, program.domains.as_slice(), name, args.as_slice()),
+        None => Ok(()),
+    }
+}
+
+/// The name of a unit.
+pub fn name_of<'a>(program: &'a Program, unit: &Unit) -> Option<&'a Name>
     ensures { option_copied result ≡ slice_get program.now.names unit.now.name }
 {
     program.names.as_slice().get(unit.name as usize)
 }
 
-// The atom of a name without arguments.
-fn word_of<'a>(name: Option<&'a Name>) -> &'a str
-    ensures { result.now ≡ word_of (option_copied name.entry) }
+/// Adds the atom of a unit.
+pub fn put_unit_atom(out: &mut Vec<u8>, program: &Program, unit: &Unit) -> Result<(), OutOfMemory>
+    ensures { OnOk result (out.new.items ≡ out.old.items ++ unit_atom program.now unit.now) }
 {
-    name.map_or("", |name| name.word.as_str())
+    match name_of(program, unit) {
+        Some(name) => put_atom(out, program.domains.as_slice(), name, unit.args.as_slice()),
+        None => Ok(()),
+    }
 }
 
 // The words of the values of a unit.
@@ -96,8 +154,17 @@ pub fn reply_word(reply: Reply) -> &'static str
     }
 }
 
-/// Adds the line of an add or a revoke, and nothing for a seal. Refused, it leaves a part of the line.
-pub fn put_feed(out: &mut Vec<u8>, program: &Program, entry: Entry) -> Result<(), OutOfMemory>
+/// Adds the line of an add or a revoke, and nothing for a seal, with a list in which arguments are made. Refused, it leaves
+/// a part of the line.
+pub fn put_feed(
+    alloc: Global,
+    out: &mut Vec<u8>,
+    program: &Program,
+    entry: Entry,
+    args: &mut Vec<u32>,
+) -> Result<(), OutOfMemory>
+    requires sound { IsSound program.now }
+    requires domains { list_all is_sound_domain program.now.domains ≡ true }
     ensures { OnOk result (out.new.items ≡ out.old.items ++ text_of_lines (feed_lines program.now entry)) }
 {
     let Entry::Fed {
@@ -114,7 +181,7 @@ pub fn put_feed(out: &mut Vec<u8>, program: &Program, entry: Entry) -> Result<()
     put_text(out, " ")?;
     put_text(out, act_word(act))?;
     put_text(out, " ")?;
-    put_text(out, word_of(input_from(program, event)))?;
+    put_event_atom(alloc, out, program, event, args)?;
     put_text(out, " ")?;
     put_number(out, at)?;
     put_text(out, " ")?;
@@ -147,41 +214,42 @@ fn put_spans(out: &mut Vec<u8>, q: Point, spans: &[Span]) -> Result<(), OutOfMem
     Ok(())
 }
 
-// Adds the line of a fluent-value, if its row is not empty.
+// Adds the line of a value of a unit, if its row is not empty.
 fn put_fluent(
     out: &mut Vec<u8>,
+    program: &Program,
     q: Point,
-    atom: &str,
+    unit: &Unit,
     value: &str,
     spans: &[Span],
 ) -> Result<(), OutOfMemory>
     ensures { OnOk result (out.new.items
-        ≡ out.old.items ++ text_of_lines (fluent_lines q atom.now (value.now, pairs spans.now))) }
+        ≡ out.old.items ++ text_of_lines (fluent_lines q (unit_atom program.now unit.now) (value.now, pairs spans.now))) }
 {
     if spans.is_empty() {
         return Ok(());
     }
     put_text(out, "  ")?;
-    put_text(out, atom)?;
+    put_unit_atom(out, program, unit)?;
     put_text(out, "=")?;
     put_text(out, value)?;
     put_spans(out, q, spans)?;
     put_text(out, "\n")
 }
 
-// Adds the lines of a fluent, from its values and their rows.
+// Adds the lines of a fluent, from the rows of its values.
 fn put_fluents(
     out: &mut Vec<u8>,
+    program: &Program,
     q: Point,
-    atom: &str,
-    values: &[Word],
+    unit: &Unit,
     rows: &[Spans],
 ) -> Result<(), OutOfMemory>
     ensures { OnOk result (out.new.items
-        ≡ out.old.items ++ text_of_lines (flat_map (fluent_lines q atom.now) (zip values.now (map pairs rows.now)))) }
+        ≡ out.old.items ++ text_of_lines (unit_lines program.now q unit.now (fluent_rows (map pairs rows.now)))) }
 {
-    for (value, spans) in values.iter().zip(rows) {
-        put_fluent(out, q, atom, value.as_str(), spans.as_slice())?;
+    for (value, spans) in value_words(program, unit).iter().zip(rows) {
+        put_fluent(out, program, q, unit, value.as_str(), spans.as_slice())?;
     }
     Ok(())
 }
@@ -198,14 +266,19 @@ fn put_points(out: &mut Vec<u8>, points: &[Point]) -> Result<(), OutOfMemory>
 }
 
 // Adds the line of a derived event, if it occurs.
-fn put_event(out: &mut Vec<u8>, atom: &str, points: &[Point]) -> Result<(), OutOfMemory>
-    ensures { OnOk result (out.new.items ≡ out.old.items ++ text_of_lines (event_lines atom.now points.now)) }
+fn put_event(
+    out: &mut Vec<u8>,
+    program: &Program,
+    unit: &Unit,
+    points: &[Point],
+) -> Result<(), OutOfMemory>
+    ensures { OnOk result (out.new.items ≡ out.old.items ++ text_of_lines (event_lines (unit_atom program.now unit.now) points.now)) }
 {
     if points.is_empty() {
         return Ok(());
     }
     put_text(out, "  ")?;
-    put_text(out, atom)?;
+    put_unit_atom(out, program, unit)?;
     put_points(out, points)?;
     put_text(out, "\n")
 }
@@ -221,12 +294,9 @@ fn put_unit(
     ensures { OnOk result (out.new.items
         ≡ out.old.items ++ text_of_lines (unit_lines program.now q unit.now (plain_rows rows.now))) }
 {
-    let atom = word_of(name_of(program, unit));
     match rows {
-        UnitRows::Fluent(rows) => {
-            put_fluents(out, q, atom, value_words(program, unit), rows.as_slice())
-        }
-        UnitRows::Event(points) => put_event(out, atom, points.as_slice()),
+        UnitRows::Fluent(rows) => put_fluents(out, program, q, unit, rows.as_slice()),
+        UnitRows::Event(points) => put_event(out, program, unit, points.as_slice()),
     }
 }
 

@@ -3,14 +3,14 @@ ghost use Rattle.std.specs.Prelude.{◌≡◌, ◌<◌, ◌≤◌, ◌∷◌, []
 ghost use Rattle.std.specs.Option.{option_copied};
 ghost use Rattle.ground_types.specs.Windows.{IsSoundPlan};
 ghost use Rattle.ground_types.specs.History.{counts_for, is_add, stands, seals, is_seal, reply_to, IsLegal};
-ghost use Rattle.rtec_main.specs.Plain.{IsPlain};
-ghost use Rattle.rtec_main.specs.Script.{IsPlainScript};
+ghost use Rattle.rtec_main.specs.Script.{commands_of, IsPlainScript};
 ghost use Rattle.rtec_main.specs.Recognised.{IsPlainHistory};
 ghost use Rattle.rtec_main.specs.Report.{entries_of, history_of};
 
-use ground_types::{Act, Command, Entry, EventId, Plan, Point, Program, Reply};
+use ground_types::{Act, Command, Entry, EventId, Plan, Point, Reply};
 use rt_base::OutOfMemory;
 use std::alloc::Global;
+use stream_read::Placed;
 
 // Whether an entry names this event and point, and was not answered Forgotten.
 fn does_count(entry: &Entry, event: EventId, at: Point) -> bool
@@ -116,20 +116,17 @@ fn entry_after(plan: &Plan, history: &[Entry], command: Command) -> Option<Entry
 }
 
 /// The history of the commands of a plain script: each add with its reply, and the seal.
-pub fn history(
-    alloc: Global,
-    program: &Program,
-    commands: &[Command],
-) -> Result<Vec<Entry>, OutOfMemory>
-    requires program { IsPlain program.now }
-    requires commands { IsPlainScript program.now.events commands.now }
-    ensures exact { IfOk result (λ history. history.items ≡ history_of program.now.plan commands.now) }
-    ensures legal { IfOk result (λ history. IsLegal program.now.plan history.items) }
-    ensures plain { IfOk result (λ history. IsPlainHistory program.now.events history.items) }
+pub fn history(alloc: Global, plan: &Plan, commands: &[Placed]) -> Result<Vec<Entry>, OutOfMemory>
+    requires plan { IsSoundPlan plan.now }
+    requires query_some { 1 ≤ plan.now.queries }
+    requires commands { IsPlainScript (commands_of commands.now) }
+    ensures exact { IfOk result (λ history. history.items ≡ history_of plan.now (commands_of commands.now)) }
+    ensures legal { IfOk result (λ history. IsLegal plan.now history.items) }
+    ensures plain { IfOk result (λ history. IsPlainHistory history.items) }
 {
     let mut history = Vec::with_capacity(alloc, commands.len())?;
-    for command in commands {
-        if let Some(entry) = entry_after(&program.plan, &history, *command) {
+    for placed in commands {
+        if let Some(entry) = entry_after(plan, &history, placed.command) {
             history.push(entry)?;
         }
     }

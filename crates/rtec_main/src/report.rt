@@ -1,8 +1,11 @@
 // The report of a plain program and script.
-ghost use Rattle.std.specs.Prelude.{◌≡◌, ◌≤◌, ◌++◌, map, flat_map, OnOk, IfOk};
+ghost use Rattle.std.specs.Prelude.{◌≡◌, ◌≤◌, ◌++◌, true, map, flat_map, OnOk, IfOk};
+ghost use Rattle.std.specs.List.{list_all};
 ghost use Rattle.ground_types.specs.Windows.{IsSoundPlan};
-ghost use Rattle.rtec_main.specs.Plain.{IsPlain};
-ghost use Rattle.rtec_main.specs.Script.{IsPlainScript};
+ghost use Rattle.ground_types.specs.Sound.{IsSound};
+ghost use Rattle.domain_decl.specs.Sound.{is_sound_domain};
+ghost use Rattle.rtec_main.specs.Built.{IsPlain};
+ghost use Rattle.rtec_main.specs.Script.{commands_of, IsPlainScript};
 ghost use Rattle.rtec_main.specs.Recognised.{plain_rows};
 ghost use Rattle.rtec_main.specs.Report.{report_text, text_of_lines};
 ghost use Rattle.rtec_main.specs.Printed.{feed_lines, block_of};
@@ -11,16 +14,25 @@ use crate::ends::put_end;
 use crate::printing::{put_feed, put_query, put_rows};
 use crate::recognise::{Recognised, recognise};
 use crate::replies::history;
-use ground_types::{Command, Entry, Program};
+use ground_types::{Entry, Program};
 use rt_base::OutOfMemory;
 use std::alloc::Global;
+use stream_read::Script;
 
 // Adds the lines of the adds and revokes. Refused, it leaves a part of them.
-fn put_feeds(out: &mut Vec<u8>, program: &Program, history: &[Entry]) -> Result<(), OutOfMemory>
+fn put_feeds(
+    alloc: Global,
+    out: &mut Vec<u8>,
+    program: &Program,
+    history: &[Entry],
+) -> Result<(), OutOfMemory>
+    requires sound { IsSound program.now }
+    requires domains { list_all is_sound_domain program.now.domains ≡ true }
     ensures { OnOk result (out.new.items ≡ out.old.items ++ text_of_lines (flat_map (feed_lines program.now) history.now)) }
 {
+    let mut args = Vec::new(alloc);
     for entry in history {
-        put_feed(out, program, *entry)?;
+        put_feed(alloc, out, program, *entry, &mut args)?;
     }
     Ok(())
 }
@@ -44,21 +56,18 @@ fn put_block(
     put_rows(out, program, q, recognised.rows.as_slice())
 }
 
-/// The report text of the commands of a plain script. A text that memory did not suffice for is dropped.
-pub fn report(
-    alloc: Global,
-    program: &Program,
-    commands: &[Command],
-) -> Result<Vec<u8>, OutOfMemory>
+/// The report text of a script that runs. A text that memory did not suffice for is dropped.
+pub fn report(alloc: Global, program: &Program, script: &Script) -> Result<Vec<u8>, OutOfMemory>
     requires program { IsPlain program.now }
-    requires commands { IsPlainScript program.now.events commands.now }
-    ensures { IfOk result (λ text. text.items ≡ report_text program.now commands.now 0) }
+    requires domains { list_all is_sound_domain program.now.domains ≡ true }
+    requires commands { IsPlainScript (commands_of script.now.commands) }
+    ensures { IfOk result (λ text. text.items ≡ report_text program.now (commands_of script.now.commands) script.now.ignored) }
 {
-    let history = history(alloc, program, commands)?;
+    let history = history(alloc, &program.plan, script.commands.as_slice())?;
     let recognised = recognise(alloc, program, &history)?;
     let mut text = Vec::new(alloc);
-    put_feeds(&mut text, program, &history)?;
+    put_feeds(alloc, &mut text, program, &history)?;
     put_block(&mut text, program, 0, &recognised)?;
-    put_end(&mut text, &history, 0, &recognised)?;
+    put_end(&mut text, &history, script.ignored, &recognised)?;
     Ok(text)
 }

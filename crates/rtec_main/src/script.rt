@@ -1,127 +1,152 @@
-// The reader of plain scripts.
-ghost use Rattle.std.specs.Prelude.{◌≡◌, ◌&&◌, codes, map, option_map, IfOk, IfSome};
-ghost use Rattle.std.specs.Str.{bytes_eq};
-ghost use Rattle.ground_types.specs.Sound.{is_input};
-ghost use Rattle.rtec_main.specs.Plain.{IsPlain};
-ghost use Rattle.rtec_main.specs.Script.{script_of, commands_in, adds_in, add_in, event_of, feeder_of, IsPlainScript};
+// The script: it is read to its end, and it runs or is refused by one answer.
+ghost use Rattle.std.specs.Prelude.{◌≡◌, ◌≤◌, ℕ, List, length, Some, IfOk, IfErr, IfSome};
+ghost use Rattle.std.specs.List.{list_all};
+ghost use Rattle.ground_types.specs.Sound.{IsSound};
+ghost use Rattle.rtec_main.specs.Script.{commands_of, is_add, is_seal, is_plain, IsPlainScript};
+ghost use Rattle.rtec_main.specs.Reads.{IsScriptRefused, IsWhyNoScript, IsScriptOf};
 
-use crate::plain::is_input;
-use crate::texts::{after_front, lines, number, split_at_byte};
-use ground_types::{Act, Command, EventId, Name, Program};
-use rt_base::OutOfMemory;
+use crate::reads::{Unread, read_all};
+use crate::status::{ScriptFault, Status};
+use ground_types::{Act, Command, Program};
+use rt_base::{Inputs, Limit};
 use std::alloc::Global;
+use stream_read::{Placed, Script, Shape, StreamRefused, commands};
 
-/// The longest script, in bytes.
-pub const LONGEST_SCRIPT: usize = 65536;
+const LONGEST_SCRIPT: usize = 67_108_864;
 
-// The most lines of a script.
-const MOST_LINES: usize = 1000;
+/// The most adds of a script that runs.
+const MOST_ADDS: usize = 1000;
 
-// One digit, 1 to 8.
-fn feeder_of(field: &[u8]) -> Option<u8>
-    ensures { result ≡ feeder_of field.now }
-{
-    match field {
-        [digit @ b'1'..=b'8'] => Some(*digit - b'0'),
-        _ => None,
+/// Why a script is not taken.
+#[derive(Clone, Copy, Debug, PartialEq, Eq)]
+pub enum ScriptRefused {
+    /// The count of its faults rose.
+    Fault,
+    /// It has more than 67,108,864 bytes.
+    TooLong,
+    /// The record of this number, counted from 1, is the first that has no form.
+    BadRecord { number: u32 },
+    /// It has more than 2,097,152 records.
+    TooMany,
+    /// Its commands are not at most 1,000 adds and then one seal.
+    NotPlain,
+    /// Memory ran out.
+    OutOfMemory,
+}
+
+impl From<Unread> for ScriptRefused {
+    ghost use Rattle.rtec_main.specs.Reads.{unread_script};
+
+    ghost from_gives = { λ unread refused. refused ≡ unread_script unread };
+
+    fn from(unread: Unread) -> ScriptRefused {
+        match unread {
+            Unread::Fault => ScriptRefused::Fault,
+            Unread::TooLong => ScriptRefused::TooLong,
+            Unread::OutOfMemory => ScriptRefused::OutOfMemory,
+        }
     }
 }
 
-fn is_event(name: &Name, word: &[u8]) -> bool
-    ensures { result ≡ (is_input name.now.kind && bytes_eq name.now.word word.now) }
-{
-    is_input(name.kind) && name.word.as_str().as_bytes() == word
-}
+impl From<StreamRefused> for ScriptRefused {
+    ghost use Rattle.rtec_main.specs.Reads.{unmerged};
 
-// The input event of a name.
-fn event_of(program: &Program, word: &[u8]) -> Option<EventId>
-    ensures { result ≡ event_of program.now word.now }
-{
-    let mut names = program.names.as_slice().iter();
-    let name = names.find(|name| is_event(name, word))?;
-    Some(name.first)
-}
+    ghost from_gives = { λ stream refused. refused ≡ unmerged stream };
 
-// The command of a line `add,F,T,NAME`.
-fn add_in(program: &Program, line: &[u8]) -> Option<Command>
-    ensures { result ≡ add_in program.now line.now }
-{
-    let fields = after_front(line, b"add,")?;
-    let (feeder, more) = split_at_byte(fields, b',')?;
-    let feeder = feeder_of(feeder)?;
-    let (at, name) = split_at_byte(more, b',')?;
-    let at = number(at)?;
-    let event = event_of(program, name)?;
-    Some(Command::Feed {
-        feeder,
-        act: Act::Add,
-        event,
-        at,
-    })
-}
-
-fn is_seal(line: &[u8]) -> bool
-    ensures { result ≡ bytes_eq line.now (codes "seal") }
-{
-    line == b"seal".as_slice()
-}
-
-fn adds_in(
-    alloc: Global,
-    program: &Program,
-    lines: &[&[u8]],
-) -> Result<Option<Vec<Command>>, OutOfMemory>
-    ensures { IfOk result (λ found. option_map (λ adds. adds.items) found ≡ adds_in program.now (map (λ line. line.now) lines.now)) }
-{
-    let mut adds = Vec::with_capacity(alloc, lines.len() + 1)?;
-    for line in lines {
-        let Some(add) = add_in(program, line) else {
-            return Ok(None);
-        };
-        adds.push(add)?;
+    fn from(refused: StreamRefused) -> ScriptRefused {
+        match refused {
+            StreamRefused::BadRecord { number } => ScriptRefused::BadRecord { number },
+            StreamRefused::TooMany => ScriptRefused::TooMany,
+            StreamRefused::OutOfMemory => ScriptRefused::OutOfMemory,
+        }
     }
-    Ok(Some(adds))
 }
 
-// The adds of all lines but the last, and the seal that the last one is.
-fn commands_in(
-    alloc: Global,
-    program: &Program,
-    lines: &[&[u8]],
-) -> Result<Option<Vec<Command>>, OutOfMemory>
-    ensures { IfOk result (λ found. option_map (λ commands. commands.items) found ≡ commands_in program.now (map (λ line. line.now) lines.now)) }
+impl From<ScriptRefused> for Status {
+    ghost use Rattle.rtec_main.specs.Reads.{script_status};
+
+    ghost from_gives = { λ refused status. status ≡ script_status refused };
+
+    fn from(refused: ScriptRefused) -> Status {
+        match refused {
+            ScriptRefused::Fault => Status::ReadFault { input: 1 },
+            ScriptRefused::TooLong => Status::TooLarge {
+                limit: Limit::Script,
+            },
+            ScriptRefused::BadRecord { number } => Status::BadScript {
+                input: 1,
+                place: number,
+                fault: ScriptFault::BadRecord,
+            },
+            ScriptRefused::TooMany => Status::TooLarge {
+                limit: Limit::Commands,
+            },
+            ScriptRefused::NotPlain => Status::NotBuilt { input: 1 },
+            ScriptRefused::OutOfMemory => Status::OutOfMemory,
+        }
+    }
+}
+
+fn is_add(placed: &Placed) -> bool
+    ensures { result ≡ is_add placed.now.command }
 {
-    let Some((last, adds)) = lines.split_last() else {
-        return Ok(None);
+    matches!(placed.command, Command::Feed { act: Act::Add, .. })
+}
+
+fn is_seal(placed: &Placed) -> bool
+    ensures { result ≡ is_seal (Some placed.now.command) }
+{
+    matches!(placed.command, Command::Seal)
+}
+
+fn are_adds(placed: &[Placed]) -> bool
+    ensures { result ≡ list_all (λ p. is_add p.command) placed.now }
+{
+    placed.iter().all(is_add)
+}
+
+// Whether commands are at most 1,000 adds and then one seal.
+fn is_plain(commands: &[Placed]) -> bool
+    ensures { result ≡ is_plain (commands_of commands.now) }
+{
+    let Some((last, adds)) = commands.split_last() else {
+        return false;
     };
     if !is_seal(last) {
-        return Ok(None);
+        return false;
     }
-    let Some(mut commands) = adds_in(alloc, program, adds)? else {
-        return Ok(None);
-    };
-    commands.push(Command::Seal)?;
-    Ok(Some(commands))
+    adds.len() <= MOST_ADDS && are_adds(adds)
 }
 
-/// The commands of a plain script, and none of another text.
-pub fn script(
-    alloc: Global,
-    program: &Program,
-    text: &[u8],
-) -> Result<Option<Vec<Command>>, OutOfMemory>
-    requires { IsPlain program.now }
-    ensures exact { IfOk result (λ found. option_map (λ commands. commands.items) found ≡ script_of program.now text.now) }
-    ensures plain { IfOk result (λ found. IfSome found (λ commands. IsPlainScript program.now.events commands.items)) }
+// The script of these bytes, where it runs.
+fn script(alloc: Global, program: &Program, text: &[u8]) -> Result<Script, ScriptRefused>
+    requires program { IsSound program.now }
+    requires few { length text.now ≤ 67108864 }
+    ensures plain { IfOk result (λ script. IsPlainScript (commands_of script.commands)) }
+    ensures ok { IfOk result (IsScriptOf program.now text.now) }
+    ensures err { IfErr result (IsScriptRefused program.now text.now) }
 {
-    if text.len() > LONGEST_SCRIPT {
-        return Ok(None);
+    let script = commands(alloc, text, program, Shape::Merged)?;
+    if !is_plain(script.commands.as_slice()) {
+        return Err(ScriptRefused::NotPlain);
     }
-    let Some(lines) = lines(alloc, text)? else {
-        return Ok(None);
-    };
-    if lines.len() > MOST_LINES {
-        return Ok(None);
-    }
-    commands_in(alloc, program, &lines)
+    Ok(script)
+}
+
+/// The commands of a script that runs, which is read to its end.
+pub fn read_script<I: Inputs>(
+    alloc: Global,
+    inputs: &mut I,
+    name: &str,
+    program: &Program,
+) -> Result<Script, ScriptRefused>
+    requires program { IsSound program.now }
+    ensures plain { IfOk result (λ script. IsPlainScript (commands_of script.commands)) }
+    ensures ok { IfOk result (λ script. IfSome (I.bytes inputs.old name.now) (λ text. IsScriptOf program.now text script)) }
+    ensures err { IfErr result (IsWhyNoScript (I.bytes inputs.old name.now) (I.faults inputs.old name.now) (I.faults inputs.new name.now) program.now) }
+    ensures same { (other : List ℕ) → I.bytes inputs.new other ≡ I.bytes inputs.old other }
+    ensures later { (other : List ℕ) → I.faults inputs.old other ≤ I.faults inputs.new other }
+{
+    let text = read_all(alloc, inputs, name, LONGEST_SCRIPT)?;
+    script(alloc, program, &text)
 }

@@ -1,12 +1,12 @@
-// The points of a window at which each input event stands.
-ghost use Rattle.std.specs.Prelude.{◌≡◌, ◌≤◌, [], ℕ, true, nat_lt, map, vec_items, vec_len, slice_index_or, IfOk};
-ghost use Rattle.std.specs.List.{filter_map, list_all};
+// The occurrences of a window that stand at the seal.
+ghost use Rattle.std.specs.Prelude.{◌≡◌, ◌≤◌, ◌==◌, ℕ, filter, IfOk};
+ghost use Rattle.std.specs.List.{filter_map};
+ghost use Rattle.std.specs.List.Sorted.{IsNonDecreasingBy};
 ghost use Rattle.span_algebra.specs.Normal.{IsRising};
 ghost use Rattle.ground_types.specs.Members.{contains};
-ghost use Rattle.ground_types.specs.Recognition.{is_among};
-ghost use Rattle.rtec_main.specs.Recognised.{IsPlainHistory, occurrence_in, standing_rows};
+ghost use Rattle.rtec_main.specs.Recognised.{IsPlainHistory, occurrence_in, AreStanding};
 
-use ground_types::{Entry, Occ, Point, Reply};
+use ground_types::{Entry, EventId, Occ, Point, Reply};
 use rt_base::OutOfMemory;
 use span_algebra::Points;
 use std::alloc::Global;
@@ -42,22 +42,6 @@ fn occurrences_in(
     Ok(told)
 }
 
-// The points of the occurrences of each of so many events.
-fn points_by_event(alloc: Global, events: u32, told: &[Occ]) -> Result<Vec<Vec<Point>>, OutOfMemory>
-    requires { list_all (λ occ. nat_lt occ.event events) told.now ≡ true }
-    ensures len { IfOk result (λ points. vec_len points ≡ events) }
-    ensures same { IfOk result (λ points. (event t : ℕ) → contains (slice_index_or (map vec_items points.items) event []) t ≡ is_among told.now event t) }
-{
-    let mut points = Vec::new(alloc);
-    for _ in 0..events {
-        points.push(Vec::new(alloc))?;
-    }
-    for occ in told {
-        points[occ.event as usize].push(occ.at)?;
-    }
-    Ok(points)
-}
-
 /// The same points in rising order, each once. It takes no memory.
 pub fn rising_points(alloc: Global, mut points: Vec<Point>) -> Points
     ensures rises { IsRising result }
@@ -68,23 +52,28 @@ pub fn rising_points(alloc: Global, mut points: Vec<Point>) -> Points
     Points::of(alloc, points)
 }
 
-/// For each of so many events, the points of the window at which it stands at the seal.
-pub fn standing_points(
+/// The occurrences of the window that stand at the seal, by event and then by point.
+pub fn standing(
     alloc: Global,
-    events: u32,
     history: &[Entry],
     w: Point,
     q: Point,
-) -> Result<Vec<Points>, OutOfMemory>
-    requires history { IsPlainHistory events history.now }
+) -> Result<Vec<Occ>, OutOfMemory>
+    requires history { IsPlainHistory history.now }
     requires window { w ≤ q }
-    ensures { IfOk result (λ standing. standing.items ≡ standing_rows history.now events w q) }
+    ensures { IfOk result (λ occs. AreStanding history.now w q occs.items) }
 {
-    let told = occurrences_in(alloc, history, w, q)?;
-    let by_event = points_by_event(alloc, events, &told)?;
-    let mut standing = Vec::new(alloc);
-    for points in by_event {
-        standing.push(rising_points(alloc, points))?;
-    }
-    Ok(standing)
+    let mut told = occurrences_in(alloc, history, w, q)?;
+    told.sort_unstable_by_key(|occ| (occ.event, occ.at));
+    told.dedup();
+    Ok(told)
+}
+
+/// The occurrences of one event among some that are in order by event. Two binary searches.
+pub fn of_event(occs: &[Occ], event: EventId) -> &[Occ]
+    requires { IsNonDecreasingBy (λ (occ : Occ). occ.event) occs.now }
+    ensures { result.now ≡ filter (λ occ. occ.event == event) occs.now }
+{
+    let rest = &occs[occs.partition_point(|occ| occ.event < event)..];
+    &rest[..rest.partition_point(|occ| occ.event <= event)]
 }

@@ -87,7 +87,7 @@ pub enum Status {
         number: u32,
         line: u32,
     },
-    /// The input is of a form that does not run yet, or a script is too long for it.
+    /// The description is of a form that does not run yet, or the script is.
     NotBuilt {
         input: u8,
     },

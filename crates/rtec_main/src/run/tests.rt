@@ -25,16 +25,17 @@ fn file(alloc: Global, name: &str, bytes: &[u8]) -> Result<(Word, Vec<u8>), Fail
     Ok((Word::new(alloc, name)?, Vec::from_slice(alloc, bytes)?))
 }
 
-// The status and the bytes written of `recognise desc script` over these files; reads and writes of these numbers fail.
-fn ran_over(
+// The status and the bytes written of the words of a line over these files; reads and writes of these numbers fail.
+fn ran_words(
     rt: &(impl Threads + Sync + AllocGlobal),
+    line: &str,
     files: Vec<(Word, Vec<u8>)>,
     failing_reads: &[u64],
     piece: usize,
     failing_writes: &[u64],
 ) -> Result<(Status, Vec<u8>), Fail> {
     let alloc = rt.alloc();
-    let words = words(alloc, "recognise|desc|script")?;
+    let words = words(alloc, line)?;
     let mut inputs = MemoryInputs::new(files, Vec::from_slice(alloc, failing_reads)?);
     let mut out = MemorySink::new(
         alloc,
@@ -44,6 +45,17 @@ fn ran_over(
     )?;
     let status = run(rt, alloc, &words, &mut inputs, &mut out, &NoGate);
     Ok((status, Vec::from_slice(alloc, out.bytes())?))
+}
+
+fn ran_over(
+    rt: &(impl Threads + Sync + AllocGlobal),
+    files: Vec<(Word, Vec<u8>)>,
+    failing_reads: &[u64],
+    piece: usize,
+    failing_writes: &[u64],
+) -> Result<(Status, Vec<u8>), Fail> {
+    let line = "recognise|desc|script";
+    ran_words(rt, line, files, failing_reads, piece, failing_writes)
 }
 
 fn ran(
@@ -58,6 +70,17 @@ fn ran(
     ran_over(rt, files, &[], 1000, &[])
 }
 
+// The same of `ground desc`.
+fn grounded(
+    rt: &(impl Threads + Sync + AllocGlobal),
+    description: &[u8],
+) -> Result<(Status, Vec<u8>), Fail> {
+    let alloc = rt.alloc();
+    let mut files = Vec::new(alloc);
+    files.push(file(alloc, "desc", description)?)?;
+    ran_words(rt, "ground|desc", files, &[], 1000, &[])
+}
+
 // The text with one part of it changed.
 fn changed(alloc: Global, text: &str, from: &str, to: &str) -> Result<String, Fail> {
     let (front, back) = text.split_once(from).ok_or("the part is not there")?;
@@ -65,7 +88,8 @@ fn changed(alloc: Global, text: &str, from: &str, to: &str) -> Result<String, Fa
 }
 
 mod descriptions;
-mod near_misses;
+mod grounding;
+mod scripts;
 
 #[test]
 fn reports_are_as_worked_by_hand(rt: HostRuntime) -> Result<(), Fail> {
@@ -137,7 +161,11 @@ fn words_of_no_command_are_refused(rt: HostRuntime) -> Result<(), Fail> {
         "recognise|-x|script",
         "recognise|desc|-",
         "recognise|desc|",
+        "ground",
+        "ground|",
+        "ground|-",
         "ground|desc|script",
+        "report|desc|script",
     ] {
         let words = words(alloc, line)?;
         let mut inputs = MemoryInputs::new(Vec::new(alloc), Vec::new(alloc));
@@ -275,5 +303,20 @@ fn a_sink_of_one_byte_a_call_gets_all(rt: HostRuntime) -> Result<(), Fail> {
     let (status, bytes) = ran_over(&rt, files, &[], 1, &[])?;
     assert_eq!(rt; status, Status::Done);
     assert!(rt; bytes.starts_with(b"query 0 window (0,10] evaluations 0\n"));
+    Ok(())
+}
+
+#[test]
+fn a_ground_text_is_written_or_its_fault_named(rt: HostRuntime) -> Result<(), Fail> {
+    let alloc = rt.alloc();
+    let fault = Status::ReadFault { input: 0 };
+    let (status, bytes) = ran_words(&rt, "ground|desc", Vec::new(alloc), &[], 1000, &[])?;
+    assert_eq!(rt; status, fault);
+    assert_eq!(rt; bytes.len(), 0);
+    let mut files = Vec::new(alloc);
+    files.push(file(alloc, "desc", LAMP.as_bytes())?)?;
+    let (status, bytes) = ran_words(&rt, "ground|desc", files, &[], 10, &[1])?;
+    assert_eq!(rt; status, Status::WriteFault);
+    assert_eq!(rt; bytes.as_slice(), b"window(10)".as_slice());
     Ok(())
 }

@@ -1,11 +1,14 @@
-use Rattle.std.proofs.Common.{◌≡◌, ◌++◌, length, take, map}
-use Rattle.std.specs.Prelude.{flat_map}
-use Rattle.std.specs.List.{zip}
+use Rattle.std.proofs.Common.{◌≡◌, ◌++◌, length, take, map, slice_get}
+use Rattle.std.specs.Prelude.{flat_map, zip}
 use Rattle.simple_fluent.specs.Rows.{pairs}
-use Rattle.rtec_main.specs.Report.{fluent_lines, text_of_lines}
+use Rattle.rtec_main.specs.Atoms.{unit_atom}
+use Rattle.rtec_main.specs.Report.{value_words, fluent_lines, text_of_lines}
 use Rattle.rtec_main.proofs.printing.put_fluents.Given as goal
 
 abbrev pub invariant-loop-value : goal.invariant-loop-value
 invariant-loop-value l =
     l.out.items
-    ≡ l.fn.out.items ++ text_of_lines (flat_map (fluent_lines l.q l.atom) (take (length l.yielded) (zip l.values (map pairs l.rows))))
+    ≡ l.fn.out.items
+    ++ text_of_lines
+    (flat_map (fluent_lines l.q (unit_atom l.program l.unit))
+    (take (length l.yielded) (zip (value_words (slice_get l.program.names l.unit.name)) (map pairs l.rows))))

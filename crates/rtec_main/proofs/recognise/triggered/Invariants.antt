@@ -7,4 +7,4 @@ use Rattle.rtec_main.proofs.recognise.triggered.Given as goal
 
 abbrev pub invariant-loop-rule : goal.invariant-loop-rule
 invariant-loop-rule l =
-    (t : ℕ) → contains l.found.items t ≡ list_any (λ rule. body_holds (input_table l.fn.standing) rule t) (take l.rule-index l.fn.rules)
+    (t : ℕ) → contains l.found.items t ≡ list_any (λ rule. body_holds (input_table l.fn.occs) rule t) (take l.rule-index l.fn.rules)

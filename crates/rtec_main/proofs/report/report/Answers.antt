@@ -1,7 +1,10 @@
 use Rattle.std.proofs.Common.{◌≡◌, List, map, ◌∙◌, ap, subst, arith}
 use Rattle.ground_types.specs.Publication.{publication}
 use Rattle.ground_types.specs.Touched.{evaluations}
+use Rattle.ground_types.specs.declared.entries.Command.{Command}
 use Rattle.ground_types.specs.declared.entries.Entry.{Entry}
+use Rattle.stream_read.specs.declared.script.Placed.{Placed}
+use Rattle.rtec_main.specs.Script.{commands_of}
 use Rattle.rtec_main.specs.Recognised.{IsPlainHistory, plain_rows}
 use Rattle.rtec_main.specs.Report.{history_of}
 use Rattle.rtec_main.proofs.Counts.{few_spans, few_points}
@@ -19,9 +22,14 @@ put_end-requires-clause-points c =
 pub returns : goal.returns
 returns c =
     let program = c.args.program.now in
-    let told : c.deref.result.now ≡ history_of program.plan c.args.commands.now = c.deref.ensures.value ∙ c.in_ok-history.ensures.exact in
-    let joined = report_joins program c.args.commands.now (map plain_rows c.in_ok-recognised.recognised.rows) c.in_ok-recognised.recognised.evaluations
-    (subst (λ (h : List Entry). IsPlainHistory program.events h) c.in_ok-history.ensures.exact c.in_ok-history.ensures.plain)
+    let commands : List Command = commands_of c.args.script.now.commands in
+    let placed : c.as_slice.result.now ≡ c.args.script.now.commands = c.as_slice.ensures in
+    let made : c.in_ok-history.history.items ≡ history_of program.plan commands =
+    c.in_ok-history.ensures.exact ∙ ap (λ (p : List Placed). history_of program.plan (commands_of p)) placed in
+    let told : c.deref.result.now ≡ history_of program.plan commands = c.deref.ensures.value ∙ made in
+    let joined = report_joins program commands (map plain_rows c.in_ok-recognised.recognised.rows) c.in_ok-recognised.recognised.evaluations
+    c.args.script.now.ignored
+    (subst IsPlainHistory made c.in_ok-history.ensures.plain)
     (c.in_ok-recognised.ensures.rows ∙ ap (λ (h : List Entry). (publication program h 0).rows) told)
     (c.in_ok-recognised.ensures.evaluations ∙ ap (λ (h : List Entry). evaluations program h 0) told) in
-    rw (c.in_ok-put_end.ensures, c.in_ok-put_block.ensures, c.in_ok-put_feeds.ensures, c.new-text.ensures.items, c.deref-3.ensures.value, c.deref-2.ensures.value, c.in_ok-history.ensures.exact) joined
+    rw (c.in_ok-put_end.ensures, c.in_ok-put_block.ensures, c.in_ok-put_feeds.ensures, c.new-text.ensures.items, c.deref-3.ensures.value, c.deref-2.ensures.value, made) joined

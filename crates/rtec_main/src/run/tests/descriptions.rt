@@ -1,6 +1,8 @@
 // Descriptions that run, that do not run yet, and that are refused.
-use super::{FIRST_RUN, LAMP, changed, file, ran, ran_over};
+use super::{FIRST_RUN, LAMP, changed, file, grounded, ran, ran_over};
 use crate::status::{DescFault, Status};
+use rt_base::Limit;
+use std::alloc::Global;
 use std::test::Fail;
 
 const MEETING: &str =
@@ -45,19 +47,26 @@ fn what_is_accepted_and_not_built_is_said_so(rt: HostRuntime) -> Result<(), Fail
     let alloc = rt.alloc();
     let rows = [
         (" [true]", " [true, false]"),
-        ("input up.", "input up. domain v [x]. input far(v)."),
         ("input up.", "input up. static idle [true]."),
         ("input up.", "input up. derived alarm."),
         (SWITCH, "initially(on=true)."),
         (
             SWITCH,
-            "initiatedAt(on=true) :- happensAt(up), holdsAt(on=true).",
+            "simple other [true]. initiatedAt(on=true) :- happensAt(up), holdsAt(other=true).",
         ),
         (
             SWITCH,
             "initiatedAt(on=true) :- happensAt(up), not happensAt(down).",
         ),
-        (SWITCH, "initiatedAt(on=true) :- happensAt(start(on=true))."),
+        (
+            SWITCH,
+            "simple other [true]. initiatedAt(on=true) :- happensAt(end(other=true)).",
+        ),
+        // A rule counts where it has no instance.
+        (
+            SWITCH,
+            "domain v []. simple far(v) [true]. initially(far(X)=true).",
+        ),
     ];
     for (from, to) in rows {
         let description = changed(alloc, LAMP, from, to)?;
@@ -65,8 +74,89 @@ fn what_is_accepted_and_not_built_is_said_so(rt: HostRuntime) -> Result<(), Fail
         assert_eq!(rt; status, Status::NotBuilt { input: 0 }, "{to:?}");
         assert_eq!(rt; bytes.len(), 0, "{to:?}");
     }
-    let (status, _) = ran(&rt, MEETING.as_bytes(), b"seal\n")?;
-    assert_eq!(rt; status, Status::NotBuilt { input: 0 });
+    Ok(())
+}
+
+#[test]
+fn cycles_are_faults(rt: HostRuntime) -> Result<(), Fail> {
+    let alloc = rt.alloc();
+    let front = "window(10).\nstep(5).\ninput up.\nsimple a [true].\nsimple b [true].\n";
+    for body in ["holdsAt(b=true)", "not holdsAt(a=true)"] {
+        let rules = "initiatedAt(b=true) :- happensAt(up), holdsAt(a=true).\n";
+        let description = format!(in alloc;
+            "{front}initiatedAt(a=true) :- happensAt(up), {body}.\n{rules}"
+        )?;
+        let wanted = Status::BadDescription(DescFault::Cyclic { line: 4 });
+        let (status, _) = ran(&rt, description.as_bytes(), b"")?;
+        assert_eq!(rt; status, wanted, "{body}");
+        let (status, bytes) = grounded(&rt, description.as_bytes())?;
+        assert_eq!(rt; status, wanted, "{body}");
+        assert_eq!(rt; bytes.len(), 0, "{body}");
+    }
+    Ok(())
+}
+
+// Entities d1, d2 and so on, parted by commas.
+fn entities(alloc: Global, count: u32) -> Result<String, Fail> {
+    let mut text = "d1".to_string(alloc)?;
+    for number in 2..=count {
+        let entity = format!(in alloc; ",d{number}")?;
+        text.push_str(entity.as_str())?;
+    }
+    Ok(text)
+}
+
+#[test]
+fn what_exceeds_a_limit_is_too_large(rt: HostRuntime) -> Result<(), Fail> {
+    let alloc = rt.alloc();
+    let pairs = "input e(d, d). simple on [true].\n\
+        initiatedAt(on=true) :- happensAt(e(X, Y)), X \\= Y.";
+    let more = format!(in alloc; "{pairs} input up. terminatedAt(on=true) :- happensAt(up).")?;
+    let rows = [
+        (
+            4097,
+            "",
+            Status::BadDescription(DescFault::TooMany { line: 3 }),
+        ),
+        (
+            300,
+            "simple p(d, d) [true].",
+            Status::TooLarge {
+                limit: Limit::Units,
+            },
+        ),
+        (
+            1024,
+            pairs,
+            Status::TooLarge {
+                limit: Limit::Rules,
+            },
+        ),
+        (
+            1024,
+            more.as_str(),
+            Status::TooLarge {
+                limit: Limit::Assignments,
+            },
+        ),
+        // A limit is tested before the form is.
+        (
+            300,
+            "simple p(d, d) [true]. static q [true].",
+            Status::TooLarge {
+                limit: Limit::Units,
+            },
+        ),
+    ];
+    for (count, rest, wanted) in rows {
+        let domain = entities(alloc, count)?;
+        let description = format!(in alloc; "window(10).\nstep(5).\ndomain d [{domain}].\n{rest}")?;
+        let (status, _) = ran(&rt, description.as_bytes(), b"")?;
+        assert_eq!(rt; status, wanted, "{count} {rest}");
+        let (status, bytes) = grounded(&rt, description.as_bytes())?;
+        assert_eq!(rt; status, wanted, "{count} {rest}");
+        assert_eq!(rt; bytes.len(), 0, "{count} {rest}");
+    }
     Ok(())
 }
 
@@ -238,7 +328,11 @@ fn the_description_is_refused_before_the_script_is_read(rt: HostRuntime) -> Resu
             "input up;",
             Status::BadDescription(DescFault::BadByte { line: 1 }),
         ),
-        (MEETING, Status::NotBuilt { input: 0 }),
+        (
+            "window(1). step(1). derived alarm.",
+            Status::NotBuilt { input: 0 },
+        ),
+        (MEETING, Status::ReadFault { input: 1 }),
         (LAMP, Status::ReadFault { input: 1 }),
     ];
     for (text, wanted) in rows {

@@ -1,0 +1,45 @@
+-- What the code lends of a task, and what the text of a task comes to before anything is written.
+use Rattle.std.specs.Prelude.{◌≡◌, ◌⊎◌, ℕ, List, Option, Result, Ok, Err, Vec}
+use Rattle.std.specs.declared.alloc.Global.{Global}
+use Rattle.rtec_main.specs.declared.words.Task.{Task as LentTask}
+use Rattle.rtec_main.specs.declared.words.Task.TheVariants as lent
+use Rattle.rtec_main.specs.declared.status.Status.{Status}
+use Rattle.rtec_main.specs.declared.status.Status.TheVariants as status
+use Rattle.rtec_main.specs.Described.{Described, IsDescribed}
+use Rattle.rtec_main.specs.Run.{World, Task, Recognise, Ground, Told, IsText, Refuses, ReadWell, IsRecogniseOutcome, ground_outcome}
+
+abbrev pub task_by : LentTask → Task
+task_by (lent.Recognise description script) = Recognise description.now script.now
+task_by (lent.Ground description) = Ground description.now
+
+-- inputs beside a sink that took this
+abbrev pub world_of : (List ℕ → Option (List ℕ)) → (List ℕ → ℕ) → Option (List ℕ) → ℕ → World
+world_of bytes faults taken write_faults = record { bytes = bytes; faults = faults; taken = taken; write_faults = write_faults }
+
+-- the text that the task asks for, or why there is none
+abbrev pub Gives : World → World → Task → Result (Vec ℕ Global) Status → Type 0
+Gives old new task (Ok text) = IsText old task text.items
+Gives old new task (Err s) = (s ≡ status.OutOfMemory) ⊎ Refuses old new task s
+
+-- the same, whatever the sink took
+abbrev pub Answers : (List ℕ → Option (List ℕ)) → (List ℕ → ℕ) → (List ℕ → ℕ) → Task → Result (Vec ℕ Global) Status → Type 0
+Answers bytes before now task result =
+    (taken : Option (List ℕ)) (write_faults : ℕ) → Gives (world_of bytes before taken write_faults) (world_of bytes now taken write_faults) task result
+
+-- the status of a run that comes to a text, and writes it
+abbrev pub status_of : Result (Vec ℕ Global) Status → Status
+status_of (Ok text) = status.Done
+status_of (Err s) = s
+
+-- where the files are told and none failed, the status is what their bytes come to, or memory ran out
+abbrev pub Concludes : World → World → Task → Status → Type 0
+Concludes old new (Recognise description script) s =
+    Told old description (λ bytes. Told old script (λ others. ReadWell old new description → ReadWell old new script →
+    (s ≡ status.OutOfMemory) ⊎ ((described : Described) × IsDescribed bytes described × IsRecogniseOutcome described others s)))
+Concludes old new (Ground description) s =
+    Told old description (λ bytes. ReadWell old new description →
+    (s ≡ status.OutOfMemory) ⊎ ((described : Described) × IsDescribed bytes described × (s ≡ ground_outcome described)))
+
+abbrev pub ConcludesAny : (List ℕ → Option (List ℕ)) → (List ℕ → ℕ) → (List ℕ → ℕ) → Task → Result (Vec ℕ Global) Status → Type 0
+ConcludesAny bytes before now task result =
+    (taken : Option (List ℕ)) (write_faults : ℕ) → Concludes (world_of bytes before taken write_faults) (world_of bytes now taken write_faults) task (status_of result)
