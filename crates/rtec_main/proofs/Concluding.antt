@@ -14,8 +14,7 @@ use Rattle.rtec_main.specs.Described.{Described, IsDescribed, Describes}
 use Rattle.rtec_main.specs.Built.{is_built}
 use Rattle.rtec_main.specs.Script.{commands_of, IsPlainScript}
 use Rattle.rtec_main.specs.Reads.{IsDescriptionOf, IsSoundDescription, IsWhyNoDescription, description_status, IsWhyNoScript, IsScriptOf, script_status}
-use Rattle.rtec_main.specs.Run.{World, Recognise, Ground, status_of_plain, IsBuiltOutcome, IsRecogniseOutcome, ground_outcome}
-use Rattle.rtec_main.specs.Tasks.{Concludes}
+use Rattle.rtec_main.specs.Run.{Concludes, World, Recognise, Ground, status_of_plain, IsBuiltOutcome, IsRecogniseOutcome, ground_outcome}
 use Rattle.rtec_main.proofs.Refusals.{description_outcome, short_outcome, script_outcome_is}
 use Rattle.rtec_main.proofs.PlainScripts.{parts_plain}
 
@@ -31,9 +30,6 @@ one_told (Some d) P all = all d
 
 pub spent_report : (old new : World) (name script : List ℕ) → Concludes old new (Recognise name script) status.OutOfMemory
 spent_report old new name script = none_told (old.bytes name) (old.bytes script) _ (λ d s well fine. inl refl)
-
-pub spent_grounding : (old new : World) (name : List ℕ) → Concludes old new (Ground name) status.OutOfMemory
-spent_grounding old new name = one_told (old.bytes name) _ (λ d well. inl refl)
 
 -- ---- a refused description
 

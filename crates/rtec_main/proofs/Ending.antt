@@ -1,10 +1,9 @@
 -- What the text of a task, or the status in place of it, says of a run.
 use Rattle.std.proofs.Common.{◌≡◌, inl, inr, ℕ, List, Option, Some, Err, sym, subst}
-use Rattle.std.proofs.lemmas.Option.{IfSome_then}
 use Rattle.rtec_main.specs.declared.status.Status.{Status}
 use Rattle.rtec_main.specs.declared.status.Status.TheVariants as status
-use Rattle.rtec_main.specs.Run.{World, Task, Recognise, Ground, WritesNothing, Refuses, Means, MeansOfWords, Completes, task_of}
-use Rattle.rtec_main.specs.Tasks.{Gives, Concludes}
+use Rattle.rtec_main.specs.Run.{World, Task, Recognise, Ground, WritesNothing, Refuses, Means, MeansOfWords, Concludes, Completes, task_of}
+use Rattle.rtec_main.specs.Tasks.{Gives}
 
 -- ---- what the status means
 
@@ -32,11 +31,6 @@ refused_means old new words task s named (inr why) none = subst (λ (o : Option 
 
 -- ---- that it is the one that the bytes come to
 
-completes : (old new : World) (task : Task) (s : Status) → Concludes old new task s → Completes old new (Some task) s
-completes old new (Recognise description script) s h =
-    IfSome_then (old.bytes description) h (λ d told. IfSome_then (old.bytes script) told (λ t so well fine written. so well fine))
-completes old new (Ground description) s h = IfSome_then (old.bytes description) h (λ d so well written. so well)
-
 pub words_complete : (old new : World) (words : List (List ℕ)) (task : Task) (s : Status) → Some task ≡ task_of words → Concludes old new task s
     → Completes old new (task_of words) s
-words_complete old new words task s named h = subst (λ (o : Option Task). Completes old new o s) named (completes old new task s h)
+words_complete old new words task s named h = subst (λ (o : Option Task). Completes old new o s) named (λ written. h)

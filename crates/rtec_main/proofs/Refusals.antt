@@ -16,29 +16,10 @@ use Rattle.rtec_main.specs.declared.status.Status.{Status}
 use Rattle.rtec_main.specs.declared.status.Status.TheVariants as status
 use Rattle.rtec_main.specs.Described.{Described, IsDescribed, TooLong, Faulty, Exceeds}
 use Rattle.rtec_main.specs.Script.{longest, merged}
-use Rattle.rtec_main.specs.Reads.{IsWhyNoDescription, has_described_limit, is_described_limit, description_status, IsWhyNoScript, script_status}
-use Rattle.rtec_main.specs.Run.{World, Told, Runs, RefusesDescription as SaysDescription, RefusesScript as SaysScript, status_of_plain, of_merged, script_outcome}
+use Rattle.rtec_main.specs.Reads.{IsWhyNoDescription, description_status, IsWhyNoScript, script_status}
+use Rattle.rtec_main.specs.Run.{World, Runs, RefusesScript as SaysScript, status_of_plain, of_merged, script_outcome}
 
 -- ---- the status of a refusal says why
-
-says_limit : (old new : World) (name : List ℕ) (which : Limit) → Told old name (λ text. IsDescribed text (Exceeds which)) → is_described_limit which ≡ true
-    → SaysDescription old new name (status.TooLarge which)
-says_limit old new name limit.Units told is = told
-says_limit old new name limit.Events told is = told
-says_limit old new name limit.Assignments told is = told
-says_limit old new name limit.Rules told is = told
-says_limit old new name limit.Conditions told is = told
-says_limit old new name limit.Cells told is = told
-says_limit old new name other told is = absurd cc
-
-pub description_says : (old new : World) (name : List ℕ) (refused : DescriptionRefused)
-    → IsWhyNoDescription (old.bytes name) (old.faults name) (new.faults name) refused → has_described_limit refused ≡ true
-    → (description_status refused ≡ status.OutOfMemory) ⊎ SaysDescription old new name (description_status refused)
-description_says old new name description.Fault why is = inr why
-description_says old new name description.TooLong why is = inr why
-description_says old new name (description.Faulty fault) why is = inr why
-description_says old new name (description.Exceeds which) why is = inr (says_limit old new name which why is)
-description_says old new name description.OutOfMemory why is = inl refl
 
 pub script_says : (old new : World) (described name : List ℕ) (program : Program) → Runs old described program → (refused : ScriptRefused)
     → IsWhyNoScript (old.bytes name) (old.faults name) (new.faults name) program refused

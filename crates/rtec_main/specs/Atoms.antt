@@ -15,14 +15,16 @@ entity_word domains place = slice_index_or (entities_of domains place.0) place.1
 abbrev pub entity_words : List Domain → List ℕ → List ℕ → List (List ℕ)
 entity_words domains places args = map (entity_word domains) (zip places args)
 
+-- a word and its arguments: `near(v1,v2)`, or the word alone
 abbrev pub atom_text : List ℕ → List (List ℕ) → List ℕ
 atom_text word [] = word
 atom_text word (arg ∷ args) = word ++ codes "(" ++ arg ++ flat_map (λ other. codes "," ++ other) args ++ codes ")"
 
+-- the atom of a name with these arguments
 abbrev pub atom_by : List Domain → Name → List ℕ → List ℕ
 atom_by domains name args = atom_text name.word (entity_words domains name.args args)
 
--- (each event and each unit of a program has a name)
+-- the same of an event, which has a name in each program
 abbrev pub atom_of_event : List Domain → Option (Name × List ℕ) → List ℕ
 atom_of_event domains None = []
 atom_of_event domains (Some head) = atom_by domains head.0 head.1
@@ -31,6 +33,7 @@ atom_of_event domains (Some head) = atom_by domains head.0 head.1
 abbrev pub event_atom : Program → ℕ → List ℕ
 event_atom program event = atom_of_event program.domains (slice_get (event_atoms program) event)
 
+-- the same where there is a name, as each unit of a program has
 abbrev pub named_atom : List Domain → Option Name → List ℕ → List ℕ
 named_atom domains None args = []
 named_atom domains (Some name) args = atom_by domains name args

@@ -1,4 +1,5 @@
--- Descriptions that `recognise` runs: simple fluents of one value, under rules whose one condition beside X \= Y is an input event.
+-- Descriptions that `recognise` runs: simple fluents of one value, without `initially`, under rules whose one condition beside
+-- X \= Y is an input event.
 use Rattle.std.specs.Prelude.{◌≡◌, ◌≤◌, ℕ, nat_lt, nat_le, Bool, true, false, ◌&&◌, ◌==◌, List, [], ◌∷◌, length, slice_get, Option, Some, None}
 use Rattle.std.specs.List.{list_all}
 use Rattle.ground_types.specs.Sound.{is_input, IsSound}
@@ -28,6 +29,7 @@ is_built_kind kind values = false
 abbrev pub is_built_name : Name → Bool
 is_built_name name = is_built_kind name.kind name.values
 
+-- the declaration, if there is one, is that of an input event
 abbrev pub is_input_name : Option Name → Bool
 is_input_name None = false
 is_input_name (Some name) = is_input name.kind
@@ -41,6 +43,7 @@ abbrev pub is_built_trigger : List Name → Body → Bool
 is_built_trigger names (body.Happens true event) = is_input_event names event
 is_built_trigger names condition = false
 
+-- X \= Y
 abbrev pub is_unequal : Body → Bool
 is_unequal (body.Unequal x y) = true
 is_unequal condition = false
@@ -63,12 +66,14 @@ is_built checked = list_all is_built_name checked.names && list_all (λ s. is_bu
 
 -- ---- what is known of the program of such a description
 
+-- the trigger is one of so many input events
 abbrev pub is_plain_trigger : ℕ → Trigger → Bool
 is_plain_trigger events (Event event) = nat_lt event events
 is_plain_trigger events (Derived unit) = false
 is_plain_trigger events (Start unit v) = false
 is_plain_trigger events (End unit v) = false
 
+-- a rule for the one value, number 0, without a further condition
 abbrev pub is_plain_rule : ℕ → Rule → Bool
 is_plain_rule events rule = (rule.value == 0) && is_plain_trigger events rule.trigger && (length rule.conds == 0)
 
@@ -76,6 +81,7 @@ is_plain_rule events rule = (rule.value == 0) && is_plain_trigger events rule.tr
 abbrev pub are_plain_rules : ℕ → List Rule → Bool
 are_plain_rules events rules = list_all (is_plain_rule events) rules && nat_le (length rules) 262144
 
+-- a simple fluent without an initial value, under such rules
 abbrev pub is_plain_kind : ℕ → UnitKind → Bool
 is_plain_kind events (unit_kind.Simple None initiate terminate) = are_plain_rules events initiate && are_plain_rules events terminate
 is_plain_kind events kind = false

@@ -96,6 +96,7 @@ abbrev pub has_described_limit : DescriptionRefused → Bool
 has_described_limit (description.Exceeds which) = is_described_limit which
 has_described_limit other = true
 
+-- the status of a refusal of the description
 abbrev pub description_status : DescriptionRefused → Status
 description_status description.Fault = status.ReadFault 0
 description_status description.TooLong = status.TooLarge limit.Description
@@ -103,6 +104,7 @@ description_status (description.Faulty why) = status.BadDescription why
 description_status (description.Exceeds which) = status.TooLarge which
 description_status description.OutOfMemory = status.OutOfMemory
 
+-- which refusal the answer of each call comes to that reads, checks, layers or grounds
 abbrev pub unread_description : Unread → DescriptionRefused
 unread_description Fault = description.Fault
 unread_description TooLong = description.TooLong
@@ -156,6 +158,7 @@ abbrev pub IsWhyNoScript : Option (List ℕ) → ℕ → ℕ → Program → Scr
 IsWhyNoScript bytes before now program script.Fault = Rose before now
 IsWhyNoScript bytes before now program refused = IfSome bytes (λ text. IsScriptRefused program text refused)
 
+-- the status of a refusal of the script
 abbrev pub script_status : ScriptRefused → Status
 script_status script.Fault = status.ReadFault 1
 script_status script.TooLong = status.TooLarge limit.Script
@@ -164,6 +167,7 @@ script_status script.TooMany = status.TooLarge limit.Commands
 script_status script.NotPlain = status.NotBuilt 1
 script_status script.OutOfMemory = status.OutOfMemory
 
+-- which refusal the answer of each call comes to that reads a script
 abbrev pub unread_script : Unread → ScriptRefused
 unread_script Fault = script.Fault
 unread_script TooLong = script.TooLong

@@ -204,15 +204,16 @@ ground_outcome (Faulty why) = status.BadDescription why
 ground_outcome (Exceeds which) = status.TooLarge which
 ground_outcome (Describes statements checked of_name) = status.Done
 
--- Where the files are told and nothing failed, the status is what their bytes come to, or memory ran out. (What a text is as a
--- description is determined.)
+-- where the files are told and read well, the status is what their bytes come to, or memory ran out
+abbrev pub Concludes : World → World → Task → Status → Type 0
+Concludes old new (Recognise description script) s =
+    Told old description (λ bytes. Told old script (λ others. ReadWell old new description → ReadWell old new script →
+    (s ≡ status.OutOfMemory) ⊎ ((described : Described) × IsDescribed bytes described × IsRecogniseOutcome described others s)))
+Concludes old new (Ground description) s =
+    Told old description (λ bytes. ReadWell old new description →
+    (s ≡ status.OutOfMemory) ⊎ ((described : Described) × IsDescribed bytes described × (s ≡ ground_outcome described)))
+
+-- Where no write failed either, so it is. (What a text is as a description is determined.)
 abbrev pub Completes : World → World → Option Task → Status → Type 0
 Completes old new None s = Unit {0}
-Completes old new (Some (Recognise description script)) s =
-    Told old description (λ bytes. Told old script (λ others.
-    ReadWell old new description → ReadWell old new script → (Rose old.write_faults new.write_faults → ⊥) →
-    (s ≡ status.OutOfMemory) ⊎ ((described : Described) × IsDescribed bytes described × IsRecogniseOutcome described others s)))
-Completes old new (Some (Ground description)) s =
-    Told old description (λ bytes.
-    ReadWell old new description → (Rose old.write_faults new.write_faults → ⊥) →
-    (s ≡ status.OutOfMemory) ⊎ ((described : Described) × IsDescribed bytes described × (s ≡ ground_outcome described)))
+Completes old new (Some task) s = (Rose old.write_faults new.write_faults → ⊥) → Concludes old new task s

@@ -5,8 +5,7 @@ use Rattle.rtec_main.specs.declared.words.Task.{Task as LentTask}
 use Rattle.rtec_main.specs.declared.words.Task.TheVariants as lent
 use Rattle.rtec_main.specs.declared.status.Status.{Status}
 use Rattle.rtec_main.specs.declared.status.Status.TheVariants as status
-use Rattle.rtec_main.specs.Described.{Described, IsDescribed}
-use Rattle.rtec_main.specs.Run.{World, Task, Recognise, Ground, Told, IsText, Refuses, ReadWell, IsRecogniseOutcome, ground_outcome}
+use Rattle.rtec_main.specs.Run.{World, Task, Recognise, Ground, IsText, Refuses, Concludes}
 
 abbrev pub task_by : LentTask → Task
 task_by (lent.Recognise description script) = Recognise description.now script.now
@@ -31,15 +30,7 @@ abbrev pub status_of : Result (Vec ℕ Global) Status → Status
 status_of (Ok text) = status.Done
 status_of (Err s) = s
 
--- where the files are told and none failed, the status is what their bytes come to, or memory ran out
-abbrev pub Concludes : World → World → Task → Status → Type 0
-Concludes old new (Recognise description script) s =
-    Told old description (λ bytes. Told old script (λ others. ReadWell old new description → ReadWell old new script →
-    (s ≡ status.OutOfMemory) ⊎ ((described : Described) × IsDescribed bytes described × IsRecogniseOutcome described others s)))
-Concludes old new (Ground description) s =
-    Told old description (λ bytes. ReadWell old new description →
-    (s ≡ status.OutOfMemory) ⊎ ((described : Described) × IsDescribed bytes described × (s ≡ ground_outcome described)))
-
+-- the same of what the bytes come to
 abbrev pub ConcludesAny : (List ℕ → Option (List ℕ)) → (List ℕ → ℕ) → (List ℕ → ℕ) → Task → Result (Vec ℕ Global) Status → Type 0
 ConcludesAny bytes before now task result =
     (taken : Option (List ℕ)) (write_faults : ℕ) → Concludes (world_of bytes before taken write_faults) (world_of bytes now taken write_faults) task (status_of result)

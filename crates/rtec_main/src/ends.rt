@@ -1,10 +1,10 @@
 // The last three lines of a report, and what they count. Each `put_` function adds to the end of a text. Where memory
 // runs out, the text keeps what it had, and may have a part of what was to be added behind it.
 ghost use Rattle.std.specs.Prelude.{◌≡◌, ◌^◌, ◌<◌, ◌++◌, [], ◌∷◌, not, map, flat_map, length, sum_by, count_by, codes, decimal, OnOk};
-ghost use Rattle.ground_types.specs.History.{seals, is_seal};
+ghost use Rattle.ground_types.specs.History.{is_seal};
 ghost use Rattle.rtec_main.specs.Recognised.{plain_rows};
 ghost use Rattle.simple_fluent.specs.Rows.{pairs};
-ghost use Rattle.rtec_main.specs.Report.{has_reply, reply_count_text, replies, entries_line, span_count, point_count, text_of_lines};
+ghost use Rattle.rtec_main.specs.Report.{has_reply, reply_count_text, entries_line, span_count, point_count, text_of_lines};
 ghost use Rattle.rtec_main.specs.Printed.{totals_line, end_of};
 
 use crate::printing::{put_number, put_text, reply_word};

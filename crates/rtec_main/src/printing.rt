@@ -1,6 +1,6 @@
 // The lines of entries, queries and rows. Each `put_` function adds to the end of a text. Where memory runs out, the
 // text keeps what it had, and may have a part of what was to be added behind it.
-ghost use Rattle.std.specs.Prelude.{◌≡◌, ℕ, true, ◌++◌, ◌∷◌, [], map, flat_map, slice_get, codes, decimal, OnOk};
+ghost use Rattle.std.specs.Prelude.{◌≡◌, true, ◌++◌, ◌∷◌, [], map, flat_map, slice_get, codes, decimal, OnOk};
 ghost use Rattle.std.specs.Option.{option_copied};
 ghost use Rattle.std.specs.List.{list_all};
 ghost use Rattle.ground_types.specs.Publication.{fluent_rows};

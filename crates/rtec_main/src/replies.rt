@@ -2,7 +2,7 @@
 ghost use Rattle.std.specs.Prelude.{◌≡◌, ◌<◌, ◌≤◌, ◌∷◌, [], reverse, find, MatchOption, IfOk};
 ghost use Rattle.std.specs.Option.{option_copied};
 ghost use Rattle.ground_types.specs.Windows.{IsSoundPlan};
-ghost use Rattle.ground_types.specs.History.{counts_for, is_add, stands, seals, is_seal, reply_to, IsLegal};
+ghost use Rattle.ground_types.specs.History.{counts_for, is_add, stands, seals, reply_to, IsLegal};
 ghost use Rattle.rtec_main.specs.Script.{commands_of, IsPlainScript};
 ghost use Rattle.rtec_main.specs.Recognised.{IsPlainHistory};
 ghost use Rattle.rtec_main.specs.Report.{entries_of, history_of};

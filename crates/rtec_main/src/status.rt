@@ -189,20 +189,6 @@ mod tests {
                 "input 1 record 1: stuck",
             ),
             (
-                Status::TooLarge {
-                    limit: Limit::Description,
-                },
-                5,
-                "too large: description",
-            ),
-            (
-                Status::TooLarge {
-                    limit: Limit::Units,
-                },
-                5,
-                "too large: units",
-            ),
-            (
                 Status::ReadFault { input: 1 },
                 6,
                 "input 1 could not be read",
@@ -217,6 +203,30 @@ mod tests {
             (Status::NotBuilt { input: 0 }, 10, "input 0 is not built"),
         ] {
             assert_eq!(rt; status.number(), number, "{line}");
+            assert_eq!(rt; status.to_string(rt.alloc())?.as_str(), line);
+        }
+        Ok(())
+    }
+
+    #[test]
+    fn limits_have_their_words(rt: HostRuntime) -> Result<(), Fail> {
+        for (limit, line) in [
+            (Limit::Description, "too large: description"),
+            (Limit::Script, "too large: script"),
+            (Limit::Inputs, "too large: inputs"),
+            (Limit::Units, "too large: units"),
+            (Limit::Events, "too large: events"),
+            (Limit::Assignments, "too large: assignments"),
+            (Limit::Rules, "too large: rules"),
+            (Limit::Conditions, "too large: conditions"),
+            (Limit::Cells, "too large: cells"),
+            (Limit::Commands, "too large: commands"),
+            (Limit::Seals, "too large: seals"),
+            (Limit::Occurrences, "too large: occurrences"),
+            (Limit::Points, "too large: points"),
+        ] {
+            let status = Status::TooLarge { limit };
+            assert_eq!(rt; status.number(), 5, "{line}");
             assert_eq!(rt; status.to_string(rt.alloc())?.as_str(), line);
         }
         Ok(())

@@ -1,4 +1,4 @@
--- The place of arguments among all of a name, word by word.
+-- What a look-up has after each argument of a name. `entities_named` and `number_of` of `ground_rules` say what it comes to.
 use Rattle.std.specs.Prelude.{ℕ, ◌+◌, ◌*◌, List, [], ◌∷◌, length, Option, Some, None, option_map, option_and_then}
 use Rattle.ground_types.specs.declared.program.Domain.{Domain}
 use Rattle.domain_decl.specs.Lists.{place_in}

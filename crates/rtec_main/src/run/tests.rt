@@ -8,6 +8,9 @@ use std::thread::Threads;
 const LAMP: &str = "window(10).\nstep(5).\nfrom(0).\ninput up.\ninput down.\nsimple on [true].\n\
 initiatedAt(on=true) :- happensAt(up).\nterminatedAt(on=true) :- happensAt(down).\n";
 
+const MEETING: &str = "window(10).\nstep(5).\ndomain v [x].\ninput near(v, v).\n\
+simple met(v, v) [true].\ninitiatedAt(met(X, Y)=true) :- happensAt(near(X, Y)), X \\= Y.\n";
+
 const FIRST_RUN: &str = "add,1,3,up\nadd,1,7,down\nadd,1,9,up\nseal\n";
 
 // The words of a line, parted by bars; of an empty line there are none.
@@ -130,6 +133,14 @@ fn reports_are_as_worked_by_hand(rt: HostRuntime) -> Result<(), Fail> {
              query 0 window (0,10] evaluations 3\n  on=true (3,7] (9,open)\nignored 0\n\
              entries 4 admitted 3 delayed 0 already 1 revoked 0 delayed-revoked 0 unknown 0 forgotten 0\n\
              queries 1 spans 2 points 0 evaluations 3\n",
+        ),
+        // The greatest number that a record may have.
+        (
+            LAMP,
+            "add,1,9999999999999999,up\nseal\n",
+            "1 add up 9999999999999999 admitted\nquery 0 window (0,10] evaluations 0\nignored 0\n\
+             entries 1 admitted 1 delayed 0 already 0 revoked 0 delayed-revoked 0 unknown 0 forgotten 0\n\
+             queries 1 spans 0 points 0 evaluations 0\n",
         ),
         // The greatest borders.
         (
@@ -307,7 +318,7 @@ fn a_sink_of_one_byte_a_call_gets_all(rt: HostRuntime) -> Result<(), Fail> {
 }
 
 #[test]
-fn a_ground_text_is_written_or_its_fault_named(rt: HostRuntime) -> Result<(), Fail> {
+fn faults_of_ground_texts_name_their_cause(rt: HostRuntime) -> Result<(), Fail> {
     let alloc = rt.alloc();
     let fault = Status::ReadFault { input: 0 };
     let (status, bytes) = ran_words(&rt, "ground|desc", Vec::new(alloc), &[], 1000, &[])?;

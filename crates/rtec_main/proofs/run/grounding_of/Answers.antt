@@ -1,7 +1,7 @@
 use Rattle.std.proofs.Common.{◌≡◌, Err, sym, subst, rules}
 use Rattle.rtec_main.specs.Reads.{description_status}
-use Rattle.rtec_main.specs.Run.{World, Ground}
-use Rattle.rtec_main.specs.Tasks.{world_of, status_of, Concludes}
+use Rattle.rtec_main.specs.Run.{Concludes, World, Ground}
+use Rattle.rtec_main.specs.Tasks.{world_of, status_of}
 use Rattle.rtec_main.proofs.Running.{grounding_given}
 use Rattle.rtec_main.proofs.Concluding.{refused_grounding_concludes, grounding_concludes}
 use Rattle.rtec_main.proofs.run.grounding_of.Goals as goal

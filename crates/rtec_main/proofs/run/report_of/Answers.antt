@@ -1,8 +1,8 @@
 use Rattle.std.proofs.Common.{◌≡◌, ◌∙◌, ℕ, List, Option, Err, IfSome, sym, subst, rules}
 use Rattle.rtec_main.specs.declared.status.Status.TheVariants as status
 use Rattle.rtec_main.specs.Reads.{description_status, script_status, IsScriptOf}
-use Rattle.rtec_main.specs.Run.{World, Recognise}
-use Rattle.rtec_main.specs.Tasks.{world_of, status_of, Gives, Concludes}
+use Rattle.rtec_main.specs.Run.{Concludes, World, Recognise}
+use Rattle.rtec_main.specs.Tasks.{world_of, status_of, Gives}
 use Rattle.rtec_main.proofs.PlainPrograms.{plain_program_is}
 use Rattle.rtec_main.proofs.Refusals.{script_refused_before}
 use Rattle.rtec_main.proofs.Running.{not_built, refused_script, report_given}

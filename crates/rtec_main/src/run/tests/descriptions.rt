@@ -1,13 +1,9 @@
 // Descriptions that run, that do not run yet, and that are refused.
-use super::{FIRST_RUN, LAMP, changed, file, grounded, ran, ran_over};
+use super::{FIRST_RUN, LAMP, MEETING, changed, file, grounded, ran, ran_over};
 use crate::status::{DescFault, Status};
 use rt_base::Limit;
 use std::alloc::Global;
 use std::test::Fail;
-
-const MEETING: &str =
-    "window(10).\nstep(5).\ndomain v [x].\ninput near(v, v).\nsimple met(v, v) [true].\n\
-initiatedAt(met(X, Y)=true) :- happensAt(near(X, Y)), X \\= Y.\n";
 
 const SWITCH: &str = "initiatedAt(on=true) :- happensAt(up).";
 
@@ -107,7 +103,7 @@ fn entities(alloc: Global, count: u32) -> Result<String, Fail> {
 }
 
 #[test]
-fn what_exceeds_a_limit_is_too_large(rt: HostRuntime) -> Result<(), Fail> {
+fn what_exceeds_a_limit_is_refused(rt: HostRuntime) -> Result<(), Fail> {
     let alloc = rt.alloc();
     let pairs = "input e(d, d). simple on [true].\n\
         initiatedAt(on=true) :- happensAt(e(X, Y)), X \\= Y.";
@@ -123,6 +119,20 @@ fn what_exceeds_a_limit_is_too_large(rt: HostRuntime) -> Result<(), Fail> {
             "simple p(d, d) [true].",
             Status::TooLarge {
                 limit: Limit::Units,
+            },
+        ),
+        (
+            257,
+            "input e(d, d, d).",
+            Status::TooLarge {
+                limit: Limit::Events,
+            },
+        ),
+        (
+            129,
+            "simple p(d, d) [true].",
+            Status::TooLarge {
+                limit: Limit::Cells,
             },
         ),
         (
@@ -170,6 +180,12 @@ fn the_first_fault_of_a_description_is_named(rt: HostRuntime) -> Result<(), Fail
             "input up.",
             "input start.",
             DescFault::BadStatement { line: 4 },
+        ),
+        // A byte order mark.
+        (
+            "window(10)",
+            "\u{feff}window(10)",
+            DescFault::BadByte { line: 1 },
         ),
         // A bad byte before a bad statement, and text behind the last dot.
         (
@@ -308,11 +324,7 @@ fn arguments_are_of_their_domains(rt: HostRuntime) -> Result<(), Fail> {
 
 #[test]
 fn texts_that_say_nothing_have_no_plan(rt: HostRuntime) -> Result<(), Fail> {
-    let rows = [
-        ("", DescFault::BadPlan),
-        ("% nothing", DescFault::BadPlan),
-        ("\u{feff}window(10).", DescFault::BadByte { line: 1 }),
-    ];
+    let rows = [("", DescFault::BadPlan), ("% nothing", DescFault::BadPlan)];
     for (text, fault) in rows {
         let (status, _) = ran(&rt, text.as_bytes(), b"seal\n")?;
         assert_eq!(rt; status, Status::BadDescription(fault), "{text:?}");

@@ -1,10 +1,7 @@
 // Ground texts.
-use super::{LAMP, grounded};
+use super::{LAMP, MEETING, grounded};
 use crate::status::Status;
 use std::test::Fail;
-
-const MEETING: &str = "window(10).\nstep(5).\ndomain v [x].\ninput near(v, v).\n\
-simple met(v, v) [true].\ninitiatedAt(met(X, Y)=true) :- happensAt(near(X, Y)), X \\= Y.\n";
 
 // A fluent with an opening value, one whose layer is below although it is declared later, a derived event, a static
 // fluent, and a domain without entities.

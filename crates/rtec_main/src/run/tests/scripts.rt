@@ -19,6 +19,7 @@ fn the_first_record_without_a_form_is_named(rt: HostRuntime) -> Result<(), Fail>
     let rows = [
         ("add,1,3,up", "add,0,3,up", 1),
         ("add,1,3,up", "add,9,3,up", 1),
+        ("add,1,3,up", "add,1,10000000000000000,up", 1),
         ("add,1,7,down", "add,10,7,down", 2),
         ("add,1,7,down", "add,1,10000000000000000,down", 2),
         ("add,1,7,down", "add,1,,down", 2),
@@ -91,6 +92,8 @@ fn scripts_that_do_not_run_yet_are_said_so(rt: HostRuntime) -> Result<(), Fail> 
         ("add,1,3,up", "revoke,1,3,up"),
         ("add,1,3,up", "seal"),
         ("add,1,3,up", "ask,count"),
+        ("add,1,3,up", "ask,holds,8,true,on"),
+        ("seal\n", "seal\nask,block,0\n"),
         ("seal\n", ""),
         ("seal\n", "seal\nadd,1,10,up\n"),
         ("seal\n", "seal\nseal\n"),
