@@ -69,7 +69,7 @@ no_points test w q lt =
     let none : q - w ≡ 0 = omega arith in
     ap (λ (n : ℕ). filter test (range_with_len (w + 1) n)) none
 
-points_of_window : (test : ℕ → Bool) (w q : ℕ) (xs : List ℕ) → (w ≤ q) ⊎ (q < w) → IsRising xs →
+pub points_of_window : (test : ℕ → Bool) (w q : ℕ) (xs : List ℕ) → (w ≤ q) ⊎ (q < w) → IsRising xs →
     ((t : ℕ) → contains xs t ≡ (ltb w t && leb t q && test t)) → xs ≡ points test w q
 points_of_window test w q xs (inl le) rising each =
     let low : (t : ℕ) → contains xs t ≡ true → w + 1 ≤ t =

@@ -1,6 +1,7 @@
 // Starts, ends and points of rules.
 ghost use Rattle.std.specs.Prelude.{◌≡◌, ℕ, IfOk};
 ghost use Rattle.std.specs.List.{list_any};
+ghost use Rattle.span_algebra.specs.Normal.{IsRising};
 ghost use Rattle.ground_types.specs.Members.{contains};
 ghost use Rattle.ground_types.specs.Rows.{points};
 ghost use Rattle.derived_event.specs.Happening.{is_start, is_end};
@@ -42,7 +43,8 @@ pub fn ends(alloc: Global, row: &Spans, w: Point, q: Point) -> Result<Points, Ou
 /// The points that some list has, each once: those of a derived event, from the points at which the body of each of its
 /// rules is true. The time is that of sorting all of them.
 pub fn derived_points(alloc: Global, rules: &[Points]) -> Result<Points, OutOfMemory>
-    ensures { IfOk result (λ found. (t : ℕ) → contains found t ≡ list_any (λ points. contains points t) rules.now) }
+    ensures rises { IfOk result (λ found. IsRising found) }
+    ensures points { IfOk result (λ found. (t : ℕ) → contains found t ≡ list_any (λ points. contains points t) rules.now) }
 {
     let mut found = Vec::new(alloc);
     for points in rules {

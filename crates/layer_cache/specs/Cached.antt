@@ -1,5 +1,6 @@
 -- The rows of the units of a program.
-use Rattle.std.specs.Prelude.{ℕ, List, [], map, replicate, slice_get}
+use Rattle.std.specs.Prelude.{ℕ, ◌^◌, nat_lt, List, [], map, replicate, slice_get, position, if◌then◌else◌, Option, Some, None}
+use Rattle.span_algebra.specs.Normal.{covers}
 use Rattle.ground_types.specs.Publication.{value_count}
 use Rattle.ground_types.specs.declared.program.Unit.{Unit}
 use Rattle.ground_types.specs.declared.program.UnitKind.{UnitKind}
@@ -20,3 +21,13 @@ empty_rows program unit = empty_by unit.kind (value_count (slice_get program.nam
 -- the empty rows of all units, in their order
 abbrev pub all_empty : Program → List UnitRows
 all_empty program = map (empty_rows program) program.units
+
+-- a number of a value, if it has 32 bits
+abbrev pub small_value : Option ℕ → Option ℕ
+small_value None = None
+small_value (Some v) = if nat_lt v (2 ^ 32) then Some v else None
+
+-- the first of a fluent's values whose row has the point
+abbrev pub first_value_at : Option UnitRows → ℕ → Option ℕ
+first_value_at (Some (Fluent rows)) t = small_value (position (λ row. covers row t) rows)
+first_value_at rows t = None

@@ -1,2 +1,4 @@
+pub mod Rows
 pub mod Cached
+pub mod Told
 pub mod Examples

@@ -1,36 +1,53 @@
 // The cache.
-ghost use Rattle.std.specs.Prelude.{◌≡◌, ◌<◌, [], Some, replicate, length, slice_get, slice_set, IfOk};
-ghost use Rattle.ground_types.specs.Publication.{value_count};
-ghost use Rattle.layer_cache.specs.Cached.{empty_rows, all_empty};
+ghost use Rattle.std.specs.Prelude.{◌≡◌, ◌<◌, ℕ, false, [], Some, None, replicate, length, slice_get, slice_set, position, IfOk, IfSome, IfNone};
+ghost use Rattle.ground_types.specs.Sound.{unit_values};
+ghost use Rattle.layer_cache.specs.Cached.{empty_rows, all_empty, small_value, first_value_at};
+ghost use Rattle.layer_cache.specs.Told.{fluent_has, fluent_row};
+ghost use Rattle.span_algebra.specs.Normal.{covers};
 
-use ground_types::{Program, Unit, UnitId, UnitKind};
+use ground_types::{Point, Program, Unit, UnitId, UnitKind, Value};
 use rt_base::{List, OutOfMemory};
 use span_algebra::{Points, Spans, UnitRows};
 use std::alloc::Global;
 use std::marker::Model;
+use std::mem;
 
-/// The rows of each unit of a program. Contracts see the list of them, in the order of the units.
+/// The rows of each unit of a program, as they are now and as they were before. Contracts see the two lists, in the order of
+/// the units.
 #[derive(Drop)]
 pub struct Cache {
     rows: Vec<UnitRows>,
+    before: Vec<UnitRows>,
 }
 
 impl Model for Cache {
-    ghost use Rattle.std.specs.Prelude.{List as Items};
-    ghost use Rattle.span_algebra.specs.declared.rows.UnitRows.{UnitRows as Rows};
+    ghost use Rattle.layer_cache.specs.Rows.{Cached};
 
-    ghost Value = { Items Rows };
+    ghost Value = { Cached };
 
-    ghost view = { λ cache. cache.rows.items };
+    ghost view = { λ cache. record { rows = cache.rows.items; before = cache.before.items } };
 }
 
-// How many values the name of a unit has.
-fn value_count(program: &Program, unit: &Unit) -> usize
-    ensures { result ≡ value_count (slice_get program.now.names unit.now.name) }
+/// How many values the name of a unit has; none where there is no such name. It takes no memory.
+pub fn value_count(program: &Program, unit: &Unit) -> usize
+    ensures { result ≡ unit_values program.now unit.now }
 {
     match program.names.as_slice().get(unit.name as usize) {
         Some(name) => name.values.as_slice().len(),
         None => 0,
+    }
+}
+
+/// The row of a fluent's value; None for a value without a row, and for a derived event. It takes no memory.
+pub fn value_row(rows: &UnitRows, value: Value) -> Option<&Spans>
+    ensures row { IfSome result (λ row. fluent_row rows.now value ≡ Some row.now) }
+    ensures no_row { IfNone result (fluent_row rows.now value ≡ None) }
+    ensures some { IfSome result (λ row. (t : ℕ) → fluent_has (Some rows.now) value t ≡ covers row.now t) }
+    ensures none { IfNone result ((t : ℕ) → fluent_has (Some rows.now) value t ≡ false) }
+{
+    match rows {
+        UnitRows::Fluent(rows) => rows.as_slice().get(value as usize),
+        UnitRows::Event(_) => None,
     }
 }
 
@@ -58,32 +75,92 @@ fn empty_rows(alloc: Global, program: &Program, unit: &Unit) -> Result<UnitRows,
     }
 }
 
+// The empty rows of all units of a program.
+fn all_empty(alloc: Global, program: &Program) -> Result<Vec<UnitRows>, OutOfMemory>
+    ensures { IfOk result (λ rows. rows.items ≡ all_empty program.now) }
+{
+    let units = program.units.as_slice();
+    let mut rows = Vec::with_capacity(alloc, units.len())?;
+    for unit in units {
+        rows.push(empty_rows(alloc, program, unit)?)?;
+    }
+    Ok(rows)
+}
+
+// The first of some rows that has the point, by its place.
+fn first_with(rows: &[Spans], at: Point) -> Option<usize>
+    ensures { result ≡ position (λ row. covers row at) rows.now }
+{
+    rows.iter().position(|row| row.holds(at))
+}
+
+// A number of a value, if it has 32 bits.
+fn small_value(value: Option<usize>) -> Option<Value>
+    ensures { result ≡ small_value value }
+{
+    match value {
+        Some(value) if value <= u32::MAX as usize => Some(value as Value),
+        _ => None,
+    }
+}
+
 impl Cache {
-    /// The empty rows of all units of a program.
+    /// The empty rows of all units of a program, old and new.
     pub fn new(alloc: Global, program: &Program) -> Result<Cache, OutOfMemory>
-        ensures { IfOk result (λ cache. cache ≡ all_empty program.now) }
+        ensures { IfOk result (λ cache. cache ≡ record { rows = all_empty program.now; before = all_empty program.now }) }
     {
-        let units = program.units.as_slice();
-        let mut rows = Vec::with_capacity(alloc, units.len())?;
-        for unit in units {
-            rows.push(empty_rows(alloc, program, unit)?)?;
-        }
-        Ok(Cache { rows })
+        let rows = all_empty(alloc, program)?;
+        let before = all_empty(alloc, program)?;
+        Ok(Cache { rows, before })
     }
 
-    /// The rows of a unit, which has to be one of the program. It takes no memory.
+    /// The rows of a unit as they are now. The unit has to be one of the program. It takes no memory.
     pub fn row(&self, unit: UnitId) -> &UnitRows
-        requires { unit < length self.now }
-        ensures { slice_get self.now unit ≡ Some result.now }
+        requires { unit < length self.now.rows }
+        ensures { slice_get self.now.rows unit ≡ Some result.now }
     {
         &self.rows[unit as usize]
     }
 
-    /// Puts the rows of a unit, which has to be one of the program, in place of those that it had. It takes no memory.
-    pub fn put_row(&mut self, unit: UnitId, rows: UnitRows)
-        requires { unit < length self.old }
-        ensures { self.new ≡ slice_set self.old unit rows }
+    /// The rows of a unit as they were before the last turn. The unit has to be one of the program. It takes no memory.
+    pub fn old_row(&self, unit: UnitId) -> &UnitRows
+        requires { unit < length self.now.before }
+        ensures { slice_get self.now.before unit ≡ Some result.now }
     {
-        self.rows[unit as usize] = rows;
+        &self.before[unit as usize]
+    }
+
+    /// Puts the rows of a unit, which has to be one of the program, in place of those that it has now. It takes no memory.
+    pub fn put_row(&mut self, unit: UnitId, put: UnitRows)
+        requires { unit < length self.old.rows }
+        ensures { self.new ≡ record { rows = slice_set self.old.rows unit put; before = self.old.before } }
+    {
+        self.rows[unit as usize] = put;
+    }
+
+    /// The old and the new rows change places. It takes no memory.
+    pub fn turn(&mut self)
+        ensures { self.new ≡ record { rows = self.old.before; before = self.old.rows } }
+    {
+        mem::swap(&mut self.rows, &mut self.before);
+    }
+
+    /// The first value of a fluent whose old row has the point; None where there is none, and for a derived event. The unit
+    /// has to be one of the program. A search by halves for each value; it takes no memory.
+    pub fn opening(&self, unit: UnitId, at: Point) -> Option<Value>
+        requires { unit < length self.now.before }
+        ensures { result ≡ first_value_at (slice_get self.now.before unit) at }
+    {
+        match self.old_row(unit) {
+            UnitRows::Fluent(rows) => small_value(first_with(rows.as_slice(), at)),
+            UnitRows::Event(_) => None,
+        }
+    }
+
+    /// The rows of all units as they are now, in their order. It takes no memory.
+    pub fn into_rows(self) -> List<UnitRows>
+        ensures { result ≡ self.rows }
+    {
+        List::of(self.rows)
     }
 }

@@ -1,5 +1,5 @@
 -- Where inputs are told and none failed, the answer of a task is what their bytes come to.
-use Rattle.std.proofs.Common.{◌≡◌, ◌⊎◌, inl, inr, ℕ, Bool, true, false, List, map, Option, Some, None, Ok, refl, sym, ap, ◌∙◌, subst}
+use Rattle.std.proofs.Common.{◌≡◌, ◌⊎◌, inl, inr, ℕ, List, map, Option, Some, None, Ok, refl, sym, ap, ◌∙◌}
 use Rattle.std.specs.Prelude.{IfSome}
 use Rattle.rt_base.specs.Outside.{Rose}
 use Rattle.rule_read.specs.Forms.{plain}
@@ -10,11 +10,11 @@ use Rattle.rtec_main.specs.declared.inputs.DescriptionRefused.{DescriptionRefuse
 use Rattle.rtec_main.specs.declared.script.ScriptRefused.{ScriptRefused}
 use Rattle.rtec_main.specs.declared.status.Status.{Status}
 use Rattle.rtec_main.specs.declared.status.Status.TheVariants as status
-use Rattle.rtec_main.specs.Described.{Described, IsDescribed, Describes}
-use Rattle.rtec_main.specs.Built.{is_built}
+use Rattle.ground_types.specs.declared.program.Program.{Program}
+use Rattle.rtec_main.specs.Described.{Described, IsDescribed, Describes, IsProgramOf}
 use Rattle.rtec_main.specs.Script.{commands_of, IsPlainScript}
 use Rattle.rtec_main.specs.Reads.{IsDescriptionOf, IsSoundDescription, IsWhyNoDescription, description_status, IsWhyNoScript, IsScriptOf, script_status}
-use Rattle.rtec_main.specs.Run.{Concludes, World, Recognise, Ground, status_of_plain, IsBuiltOutcome, IsRecogniseOutcome, ground_outcome}
+use Rattle.rtec_main.specs.Run.{Concludes, World, Recognise, Ground, status_of_plain, script_outcome, IsRecogniseOutcome, ground_outcome}
 use Rattle.rtec_main.proofs.Refusals.{description_outcome, short_outcome, script_outcome_is}
 use Rattle.rtec_main.proofs.PlainScripts.{parts_plain}
 
@@ -23,10 +23,6 @@ pub none_told : (description script : Option (List ℕ)) (P : List ℕ → List 
 none_told None script P all = tt
 none_told (Some d) None P all = tt
 none_told (Some d) (Some s) P all = all d s
-
-pub one_told : (description : Option (List ℕ)) (P : List ℕ → Type 0) → ((d : List ℕ) → P d) → IfSome description P
-one_told None P all = tt
-one_told (Some d) P all = all d
 
 pub spent_report : (old new : World) (name script : List ℕ) → Concludes old new (Recognise name script) status.OutOfMemory
 spent_report old new name script = none_told (old.bytes name) (old.bytes script) _ (λ d s well fine. inl refl)
@@ -59,49 +55,37 @@ refused_grounding_concludes old new name refused why = grounding_by_bytes (old.b
 
 -- ---- a description that was taken
 
--- what a status is, from the test of the description and the bytes of the script
-built_outcome : (found : Description) (b : Bool) → is_built (plain_checked found.checked) ≡ b → (s : List ℕ) (t : Status)
-    → IsBuiltOutcome b (plain_checked found.checked) found.layers.of_name s t
-    → IsRecogniseOutcome (Describes (map plain found.syntax.statements) (plain_checked found.checked) found.layers.of_name) s t
-built_outcome found b is s t outcome = subst (λ (c : Bool). IsBuiltOutcome c (plain_checked found.checked) found.layers.of_name s t) (sym is) outcome
-
 -- the status of a description that was taken is this, where each script comes to it or memory ran out
-taken_by_bytes : (description script : Option (List ℕ)) (found : Description) (b : Bool) → is_built (plain_checked found.checked) ≡ b → (t : Status) (Fine Well : Type 0)
+taken_by_bytes : (description script : Option (List ℕ)) (found : Description) (t : Status) (Fine Well : Type 0)
     → IfSome description (λ d. IsDescriptionOf d found)
-    → IfSome script (λ s. Well → (t ≡ status.OutOfMemory) ⊎ IsBuiltOutcome b (plain_checked found.checked) found.layers.of_name s t)
+    → IfSome script (λ s. Well → (t ≡ status.OutOfMemory) ⊎ ((program : Program) × IsProgramOf (plain_checked found.checked) found.layers.of_name program × (t ≡ script_outcome program s)))
     → IfSome description (λ d. IfSome script (λ s. Fine → Well
     → (t ≡ status.OutOfMemory) ⊎ ((is : Described) × IsDescribed d is × IsRecogniseOutcome is s t)))
-taken_by_bytes None script found b built t Fine Well is outcome = tt
-taken_by_bytes (Some d) None found b built t Fine Well is outcome = tt
-taken_by_bytes (Some d) (Some s) found b built t Fine Well is outcome =
+taken_by_bytes None script found t Fine Well is outcome = tt
+taken_by_bytes (Some d) None found t Fine Well is outcome = tt
+taken_by_bytes (Some d) (Some s) found t Fine Well is outcome =
     λ fine well. elim (outcome well) [
       | inl e ↦ inl e
-      | inr so ↦ inr (Describes (map plain found.syntax.statements) (plain_checked found.checked) found.layers.of_name, is.described, built_outcome found b built s t so)
+      | inr so ↦ inr (Describes (map plain found.syntax.statements) (plain_checked found.checked) found.layers.of_name, is.described, so)
     ]
-
-pub not_built_concludes : (old new : World) (name script : List ℕ) (found : Description) → IfSome (old.bytes name) (λ text. IsDescriptionOf text found)
-    → is_built (plain_checked found.checked) ≡ false → Concludes old new (Recognise name script) (status.NotBuilt 0)
-not_built_concludes old new name script found is built =
-    taken_by_bytes (old.bytes name) (old.bytes script) found false built (status.NotBuilt 0) (Rose (old.faults name) (new.faults name) → ⊥) (Rose (old.faults script) (new.faults script) → ⊥) is
-    (one_told (old.bytes script) _ (λ s well. inr refl))
 
 refused_by_bytes : (script : Option (List ℕ)) (before now : ℕ) (found : Description) → IsSoundDescription found → (refused : ScriptRefused) → IsWhyNoScript script before now found.program refused
     → IfSome script (λ s. (Rose before now → ⊥)
-    → (script_status refused ≡ status.OutOfMemory) ⊎ IsBuiltOutcome true (plain_checked found.checked) found.layers.of_name s (script_status refused))
+    → (script_status refused ≡ status.OutOfMemory) ⊎ ((program : Program) × IsProgramOf (plain_checked found.checked) found.layers.of_name program × (script_status refused ≡ script_outcome program s)))
 refused_by_bytes None before now found sound refused why = tt
 refused_by_bytes (Some s) before now found sound refused why =
     λ well. elim (script_outcome_is found.program s before now refused why well) [ inl e ↦ inl e | inr e ↦ inr (found.program, sound.is_program, e) ]
 
 pub refused_script_concludes : (old new : World) (name script : List ℕ) (found : Description) → IsSoundDescription found → IfSome (old.bytes name) (λ text. IsDescriptionOf text found)
-    → is_built (plain_checked found.checked) ≡ true → (refused : ScriptRefused) → IsWhyNoScript (old.bytes script) (old.faults script) (new.faults script) found.program refused
+    → (refused : ScriptRefused) → IsWhyNoScript (old.bytes script) (old.faults script) (new.faults script) found.program refused
     → Concludes old new (Recognise name script) (script_status refused)
-refused_script_concludes old new name script found sound is built refused why =
-    taken_by_bytes (old.bytes name) (old.bytes script) found true built (script_status refused) (Rose (old.faults name) (new.faults name) → ⊥) (Rose (old.faults script) (new.faults script) → ⊥) is
+refused_script_concludes old new name script found sound is refused why =
+    taken_by_bytes (old.bytes name) (old.bytes script) found (script_status refused) (Rose (old.faults name) (new.faults name) → ⊥) (Rose (old.faults script) (new.faults script) → ⊥) is
     (refused_by_bytes (old.bytes script) (old.faults script) (new.faults script) found sound refused why)
 
 given_by_bytes : (script : Option (List ℕ)) (Well : Type 0) (found : Description) → IsSoundDescription found → (given : Script) → IfSome script (λ text. IsScriptOf found.program text given)
     → IsPlainScript (commands_of given.commands)
-    → IfSome script (λ s. Well → (status.Done ≡ status.OutOfMemory) ⊎ IsBuiltOutcome true (plain_checked found.checked) found.layers.of_name s status.Done)
+    → IfSome script (λ s. Well → (status.Done ≡ status.OutOfMemory) ⊎ ((program : Program) × IsProgramOf (plain_checked found.checked) found.layers.of_name program × (status.Done ≡ script_outcome program s)))
 given_by_bytes None Well found sound given is parts = tt
 given_by_bytes (Some s) Well found sound given is parts =
     λ well. inr (
@@ -111,10 +95,10 @@ given_by_bytes (Some s) Well found sound given is parts =
     )
 
 pub report_concludes : (old new : World) (name script : List ℕ) (found : Description) → IsSoundDescription found → IfSome (old.bytes name) (λ text. IsDescriptionOf text found)
-    → is_built (plain_checked found.checked) ≡ true → (given : Script) → IfSome (old.bytes script) (λ text. IsScriptOf found.program text given)
+    → (given : Script) → IfSome (old.bytes script) (λ text. IsScriptOf found.program text given)
     → IsPlainScript (commands_of given.commands) → Concludes old new (Recognise name script) status.Done
-report_concludes old new name script found sound is built given scripted parts =
-    taken_by_bytes (old.bytes name) (old.bytes script) found true built status.Done (Rose (old.faults name) (new.faults name) → ⊥) (Rose (old.faults script) (new.faults script) → ⊥) is
+report_concludes old new name script found sound is given scripted parts =
+    taken_by_bytes (old.bytes name) (old.bytes script) found status.Done (Rose (old.faults name) (new.faults name) → ⊥) (Rose (old.faults script) (new.faults script) → ⊥) is
     (given_by_bytes (old.bytes script) (Rose (old.faults script) (new.faults script) → ⊥) found sound given scripted parts)
 
 grounding_taken : (description : Option (List ℕ)) (Well : Type 0) (found : Description) → IfSome description (λ d. IsDescriptionOf d found)

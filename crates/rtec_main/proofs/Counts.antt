@@ -1,7 +1,8 @@
--- How many spans and points are published of a plain program: few enough for sums in 128 bits.
-use Rattle.std.proofs.Common.{◌≡◌, ℕ, zero, suc, ◌+◌, ◌-◌, ◌*◌, ◌≤◌, Bool, true, false, cond, ◌&&◌, eqb, List, [], ◌∷◌, length, map, Option, Some, None, slice_get, refl, sym, ◌∙◌, ap, arith}
+-- How many spans and points are published of a program: few enough for sums in 128 bits.
+use Rattle.std.proofs.Common.{◌≡◌, ℕ, zero, suc, ◌+◌, ◌-◌, ◌*◌, ◌≤◌, nat_le, Bool, true, false, cond, eqb, List, [], ◌∷◌, length, map, filter, slice_get, refl, sym, ◌∙◌, ap, arith}
 use Rattle.std.specs.List.{list_all, sum_by, range_with_len, enumerate_from}
-use Rattle.std.proofs.lemmas.Bool.{eqb-true}
+use Rattle.std.proofs.lemmas.Bool.Decides.{nat_tests}
+use Rattle.std.proofs.lemmas.List.FromFn.{length-range_with_len}
 use Rattle.std.proofs.lemmas.List.Sums.{sum_by-cons}
 use Rattle.ground_types.specs.Windows.{left, right, IsSoundPlan}
 use Rattle.ground_types.specs.Truth.{Table, holds}
@@ -15,8 +16,8 @@ use Rattle.ground_types.specs.declared.program.UnitKind.TheVariants.{Simple, Sta
 use Rattle.ground_types.specs.declared.program.Name.{Name}
 use Rattle.ground_types.specs.declared.program.Program.{Program}
 use Rattle.span_algebra.specs.declared.rows.UnitRows.{UnitRows}
-use Rattle.rtec_main.specs.Built.{is_plain_kind, has_one_value, IsPlain}
-use Rattle.rtec_main.specs.Recognised.{plain_rows}
+use Rattle.rtec_main.specs.Programs.{has_few_values, IsDeclared}
+use Rattle.delay_revise.specs.Published.{published}
 use Rattle.rtec_main.specs.Report.{span_count, point_count}
 use Rattle.rtec_main.proofs.Both.{both_left, both_right}
 
@@ -55,84 +56,110 @@ sum_at_most count rows test m each n (unit ∷ rest) all =
     sum_by-cons count (rows (n, unit)) (map rows (enumerate_from (n + 1) rest)) in
     omega arith
 
-one_row : (rows : ℕ → List (ℕ × ℕ)) (count m : ℕ) → count ≡ 1 → length (rows 0) ≤ m →
-    sum_by length (map rows (range_with_len 0 count)) ≤ m
-one_row rows count m is few =
-    let here : sum_by length (map rows (range_with_len 0 count)) ≡ 0 + length (rows 0) =
-    ap (λ (n : ℕ). sum_by length (map rows (range_with_len 0 n))) is in
-    omega (arith, here)
+product_le : (a b m n : ℕ) → a ≤ m → b ≤ n → a * b ≤ m * n
+product_le a b m n am bn = grind arith
 
--- a plain unit has one row
-spans_of_kind : (events : ℕ) (table : Table) (number : ℕ) (name : Option Name) (kind : UnitKind) (w q : ℕ) →
-    (is_plain_kind events kind && has_one_value name) ≡ true → span_count (rows_of_kind table number (value_count name) kind w q) ≤ q + 1 - w
-spans_of_kind events table number None kind w q plain = absurd (let no : false ≡ true = both_right (is_plain_kind events kind) false plain in cc)
-spans_of_kind events table number (Some name) (Simple None initiate terminate) w q plain =
-    one_row (λ v. row (holds table number v) w q) (length name.values) (q + 1 - w)
-    (eqb-true (length name.values) 1 (both_right (is_plain_kind events (Simple None initiate terminate)) (eqb (length name.values) 1) plain))
-    (length_runs (holds table number 0) w (q + 1 - w))
-spans_of_kind events table number (Some name) (Simple (Some v) initiate terminate) w q plain = cc
-spans_of_kind events table number (Some name) (Static exprs) w q plain = cc
-spans_of_kind events table number (Some name) (Derived rules) w q plain = cc
+-- so many rows of at most so many spans
+many_rows : (rows : ℕ → List (ℕ × ℕ)) (a count m : ℕ) → ((v : ℕ) → length (rows v) ≤ m) →
+    sum_by length (map rows (range_with_len a count)) ≤ count * m
+many_rows rows a zero m each = omega arith
+many_rows rows a (suc n) m each =
+    omega (arith, sum_by-cons length (rows a) (map rows (range_with_len (a + 1) n)), each a, many_rows rows (a + 1) n m each)
 
--- and no derived event
-points_of_kind : (events : ℕ) (table : Table) (number count : ℕ) (kind : UnitKind) (w q : ℕ) → is_plain_kind events kind ≡ true →
-    point_count (rows_of_kind table number count kind w q) ≤ 0
-points_of_kind events table number count (Simple initially initiate terminate) w q plain = omega arith
-points_of_kind events table number count (Static exprs) w q plain = omega arith
-points_of_kind events table number count (Derived rules) w q plain = cc
+-- a unit has at most 64 rows of spans
+spans_of_kind : (table : Table) (number count : ℕ) (kind : UnitKind) (w q : ℕ) → count ≤ 64 →
+    span_count (rows_of_kind table number count kind w q) ≤ 64 * (q + 1 - w)
+spans_of_kind table number count (Simple initially initiate terminate) w q few =
+    omega (
+      arith,
+      many_rows (λ v. row (holds table number v) w q) 0 count (q + 1 - w) (λ v. length_runs (holds table number v) w (q + 1 - w)),
+      product_le count (q + 1 - w) 64 (q + 1 - w) few (omega arith),
+    )
+spans_of_kind table number count (Static exprs) w q few =
+    omega (
+      arith,
+      many_rows (λ v. row (holds table number v) w q) 0 count (q + 1 - w) (λ v. length_runs (holds table number v) w (q + 1 - w)),
+      product_le count (q + 1 - w) 64 (q + 1 - w) few (omega arith),
+    )
+spans_of_kind table number count (Derived rules) w q few = omega arith
 
--- the tests that each unit of a plain program passes
-abbrev is_plain_unit : Program → ProgramUnit → Bool
-is_plain_unit program unit = is_plain_kind program.events unit.kind && has_one_value (slice_get program.names unit.name)
+kept_few : (b : Bool) (x : ℕ) (xs : List ℕ) (n : ℕ) → length xs ≤ n → length (cond b (x ∷ xs) xs) ≤ suc n
+kept_few true x xs n few = omega (arith, few)
+kept_few false x xs n few = omega (arith, few)
 
-spans_of_table : (program : Program) (table : Table) (w q : ℕ) → IsPlain program →
-    sum_by span_count (rows_of_table program table w q) ≤ length program.units * (q + 1 - w)
-spans_of_table program table w q plain =
+length_filter : (test : ℕ → Bool) (xs : List ℕ) → length (filter test xs) ≤ length xs
+length_filter test [] = omega arith
+length_filter test (x ∷ xs) = kept_few (test x) x (filter test xs) (length xs) (length_filter test xs)
+
+-- or one of points
+points_of_kind : (table : Table) (number count : ℕ) (kind : UnitKind) (w q : ℕ) →
+    point_count (rows_of_kind table number count kind w q) ≤ q + 1 - w
+points_of_kind table number count (Simple initially initiate terminate) w q = omega arith
+points_of_kind table number count (Static exprs) w q = omega arith
+points_of_kind table number count (Derived rules) w q =
+    omega (arith, length_filter (table.derived number) (range_with_len (w + 1) (q - w)), length-range_with_len (w + 1) (q - w))
+
+few_values : (names : List Name) (n : ℕ) → list_all has_few_values names ≡ true → value_count (slice_get names n) ≤ 64
+few_values [] n all = omega arith
+few_values (name ∷ names) zero all =
+    let here : nat_le (length name.values) 64 ≡ true = both_left (has_few_values name) (list_all has_few_values names) all in
+    grind (arith, nat_tests)
+few_values (name ∷ names) (suc n) all = few_values names n (both_right (has_few_values name) (list_all has_few_values names) all)
+
+all_pass : (units : List ProgramUnit) → list_all (λ unit. true) units ≡ true
+all_pass [] = refl
+all_pass (unit ∷ units) = all_pass units
+
+spans_of_table : (program : Program) (table : Table) (w q : ℕ) → IsDeclared program →
+    sum_by span_count (rows_of_table program table w q) ≤ length program.units * (64 * (q + 1 - w))
+spans_of_table program table w q declared =
     sum_at_most span_count (λ unit. rows_of_kind table unit.0 (value_count (slice_get program.names unit.1.name)) unit.1.kind w q)
-    (is_plain_unit program) (q + 1 - w)
-    (λ n unit is. spans_of_kind program.events table n (slice_get program.names unit.name) unit.kind w q is)
-    0 program.units plain.units
+    (λ unit. true) (64 * (q + 1 - w))
+    (λ n unit is. spans_of_kind table n (value_count (slice_get program.names unit.name)) unit.kind w q (few_values program.names unit.name declared.values_few))
+    0 program.units (all_pass program.units)
 
-points_of_table : (program : Program) (table : Table) (w q : ℕ) → IsPlain program →
-    sum_by point_count (rows_of_table program table w q) ≤ length program.units * 0
-points_of_table program table w q plain =
+points_of_table : (program : Program) (table : Table) (w q : ℕ) →
+    sum_by point_count (rows_of_table program table w q) ≤ length program.units * (q + 1 - w)
+points_of_table program table w q =
     sum_at_most point_count (λ unit. rows_of_kind table unit.0 (value_count (slice_get program.names unit.1.name)) unit.1.kind w q)
-    (is_plain_unit program) 0
-    (λ n unit is. points_of_kind program.events table n (value_count (slice_get program.names unit.name)) unit.kind w q
-    (both_left (is_plain_kind program.events unit.kind) (has_one_value (slice_get program.names unit.name)) is))
-    0 program.units plain.units
+    (λ unit. true) (q + 1 - w)
+    (λ n unit is. points_of_kind table n (value_count (slice_get program.names unit.name)) unit.kind w q)
+    0 program.units (all_pass program.units)
 
 sum_by_map : {A B : Type 0} (count : B → ℕ) (f : A → B) (xs : List A) → sum_by count (map f xs) ≡ sum_by (λ x. count (f x)) xs
 sum_by_map count f [] = refl
 sum_by_map count f (x ∷ xs) =
     sum_by-cons count (f x) (map f xs) ∙ ap (λ (n : ℕ). count (f x) + n) (sum_by_map count f xs) ∙ sym (sum_by-cons (λ y. count (f y)) x xs)
 
-product_le : (a b m n : ℕ) → a ≤ m → b ≤ n → a * b ≤ m * n
-product_le a b m n am bn = grind arith
-
 -- a window has a value point more than event points
 width : (plan : Plan) (k : ℕ) → IsSoundPlan plan → right plan k + 1 - left plan k ≤ 1000000000001
 width plan k sound = omega (arith, sound.window_most)
 
--- the spans of rows that are published of a plain program
-pub few_spans : (program : Program) (history : List Entry) (k : ℕ) (rows : List UnitRows) → IsPlain program →
-    map plain_rows rows ≡ (publication program history k).rows →
-    sum_by (λ unit. span_count (plain_rows unit)) rows ≤ 65536 * 1000000000001
-few_spans program history k rows plain are =
-    let same : sum_by (λ unit. span_count (plain_rows unit)) rows ≡ sum_by span_count (publication program history k).rows =
-    sym (sum_by_map span_count plain_rows rows) ∙ ap (λ (r : List PublishedRows). sum_by span_count r) are in
+-- the spans of rows that are published of a program
+pub few_spans : (program : Program) (history : List Entry) (k : ℕ) (rows : List UnitRows) → IsDeclared program →
+    map published rows ≡ (publication program history k).rows →
+    sum_by (λ unit. span_count (published unit)) rows ≤ 65536 * (64 * 1000000000001)
+few_spans program history k rows declared are =
+    let same : sum_by (λ unit. span_count (published unit)) rows ≡ sum_by span_count (publication program history k).rows =
+    sym (sum_by_map span_count published rows) ∙ ap (λ (r : List PublishedRows). sum_by span_count r) are in
+    let width : right program.plan k + 1 - left program.plan k ≤ 1000000000001 = width program.plan k declared.sound.plan in
     omega (
       arith,
       same,
-      spans_of_table program (query_table program history k) (left program.plan k) (right program.plan k) plain,
-      product_le (length program.units) (right program.plan k + 1 - left program.plan k) 65536 1000000000001 plain.sound.units_most (width program.plan k plain.sound.plan),
+      spans_of_table program (query_table program history k) (left program.plan k) (right program.plan k) declared,
+      product_le (length program.units) (64 * (right program.plan k + 1 - left program.plan k)) 65536 (64 * 1000000000001) declared.sound.units_most (omega arith),
     )
 
 -- and their points
-pub few_points : (program : Program) (history : List Entry) (k : ℕ) (rows : List UnitRows) → IsPlain program →
-    map plain_rows rows ≡ (publication program history k).rows →
-    sum_by (λ unit. point_count (plain_rows unit)) rows ≤ 0
-few_points program history k rows plain are =
-    let same : sum_by (λ unit. point_count (plain_rows unit)) rows ≡ sum_by point_count (publication program history k).rows =
-    sym (sum_by_map point_count plain_rows rows) ∙ ap (λ (r : List PublishedRows). sum_by point_count r) are in
-    omega (arith, same, points_of_table program (query_table program history k) (left program.plan k) (right program.plan k) plain)
+pub few_points : (program : Program) (history : List Entry) (k : ℕ) (rows : List UnitRows) → IsDeclared program →
+    map published rows ≡ (publication program history k).rows →
+    sum_by (λ unit. point_count (published unit)) rows ≤ 65536 * 1000000000001
+few_points program history k rows declared are =
+    let same : sum_by (λ unit. point_count (published unit)) rows ≡ sum_by point_count (publication program history k).rows =
+    sym (sum_by_map point_count published rows) ∙ ap (λ (r : List PublishedRows). sum_by point_count r) are in
+    omega (
+      arith,
+      same,
+      points_of_table program (query_table program history k) (left program.plan k) (right program.plan k),
+      product_le (length program.units) (right program.plan k + 1 - left program.plan k) 65536 1000000000001 declared.sound.units_most (width program.plan k declared.sound.plan),
+    )

@@ -1,5 +1,5 @@
 -- What the answer of a task says of a run.
-use Rattle.std.proofs.Common.{◌≡◌, inl, inr, ℕ, true, false, List, map, Option, Err}
+use Rattle.std.proofs.Common.{◌≡◌, inl, inr, ℕ, List, map, Option, Err}
 use Rattle.std.specs.Prelude.{IfSome}
 use Rattle.std.proofs.lemmas.Option.{IfSome_then}
 use Rattle.rule_read.specs.Forms.{plain}
@@ -7,9 +7,7 @@ use Rattle.domain_decl.specs.Accepted.{plain_checked}
 use Rattle.stream_read.specs.declared.script.Script.{Script}
 use Rattle.rtec_main.specs.declared.inputs.Description.{Description}
 use Rattle.rtec_main.specs.declared.script.ScriptRefused.{ScriptRefused}
-use Rattle.rtec_main.specs.declared.status.Status.TheVariants as status
 use Rattle.rtec_main.specs.Described.{IsDescribed, Describes}
-use Rattle.rtec_main.specs.Built.{is_built}
 use Rattle.rtec_main.specs.Script.{commands_of, IsPlainScript}
 use Rattle.rtec_main.specs.Report.{report_text}
 use Rattle.rtec_main.specs.GroundText.{ground_text}
@@ -27,44 +25,31 @@ found_described : (bytes : Option (List ℕ)) (found : Description) → IfSome b
 found_described bytes found is = IfSome_then bytes is (λ text of. of.described)
 
 runs_by : (world : World) (name : List ℕ) (found : Description) → IsSoundDescription found → IfSome (world.bytes name) (λ text. IsDescriptionOf text found)
-    → is_built (plain_checked found.checked) ≡ true → Runs world name found.program
-runs_by world name found sound is built = record {
+    → Runs world name found.program
+runs_by world name found sound is = record {
   statements = map plain found.syntax.statements;
   checked = plain_checked found.checked;
   of_name = found.layers.of_name;
   is_described = found_described (world.bytes name) found is;
-  is_built = built;
   is_program = sound.is_program;
 }
 
--- a description of a form that does not run
-pub not_built : (old new : World) (name script : List ℕ) (found : Description) → IfSome (old.bytes name) (λ text. IsDescriptionOf text found)
-    → is_built (plain_checked found.checked) ≡ false → Gives old new (Recognise name script) (Err (status.NotBuilt 0))
-not_built old new name script found is built = inr (inr (record {
-  statements = map plain found.syntax.statements;
-  checked = plain_checked found.checked;
-  of_name = found.layers.of_name;
-  is_described = found_described (old.bytes name) found is;
-  is_built = built;
-}))
-
 -- a refused script
 pub refused_script : (old new : World) (name script : List ℕ) (found : Description) → IsSoundDescription found → IfSome (old.bytes name) (λ text. IsDescriptionOf text found)
-    → is_built (plain_checked found.checked) ≡ true → (refused : ScriptRefused)
+    → (refused : ScriptRefused)
     → IsWhyNoScript (old.bytes script) (old.faults script) (new.faults script) found.program refused
     → Gives old new (Recognise name script) (Err (script_status refused))
-refused_script old new name script found sound is built refused why =
-    elim (script_says old new name script found.program (runs_by old name found sound is built) refused why) [ inl e ↦ inl e | inr says ↦ inr (inr says) ]
+refused_script old new name script found sound is refused why =
+    elim (script_says old new name script found.program (runs_by old name found sound is) refused why) [ inl e ↦ inl e | inr says ↦ inr (inr says) ]
 
 -- a report
 pub report_given : (old : World) (name script : List ℕ) (found : Description) → IsSoundDescription found → IfSome (old.bytes name) (λ text. IsDescriptionOf text found)
-    → is_built (plain_checked found.checked) ≡ true
     → (given : Script) → IfSome (old.bytes script) (λ text. IsScriptOf found.program text given) → IsPlainScript (commands_of given.commands)
     → (text : List ℕ) → text ≡ report_text found.program (commands_of given.commands) given.ignored → IsReport old name script text
-report_given old name script found sound is built given scripted parts text e = record {
+report_given old name script found sound is given scripted parts text e = record {
   program = found.program;
   script = given;
-  runs = runs_by old name found sound is built;
+  runs = runs_by old name found sound is;
   is_script = IfSome_then (old.bytes script) scripted (λ text of. (of.short, of.is));
   is_plain = parts_plain (commands_of given.commands) parts;
   is = e;

@@ -1,5 +1,5 @@
 pub mod Described
-pub mod Built
+pub mod Programs
 pub mod Atoms
 pub mod Script
 pub mod Report

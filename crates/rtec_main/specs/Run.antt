@@ -10,7 +10,6 @@ use Rattle.stream_read.specs.declared.script.Script.{Script}
 use Rattle.stream_read.specs.declared.script.StreamRefused.{StreamRefused}
 use Rattle.stream_read.specs.declared.script.StreamRefused.TheVariants as refused
 use Rattle.rtec_main.specs.Described.{Described, IsDescribed, TooLong, Faulty, Exceeds, Describes, IsProgramOf}
-use Rattle.rtec_main.specs.Built.{is_built}
 use Rattle.rtec_main.specs.Script.{longest, merged, commands_of, is_plain}
 use Rattle.rtec_main.specs.Report.{report_text}
 use Rattle.rtec_main.specs.GroundText.{ground_text}
@@ -49,13 +48,12 @@ Told world name P = IfSome (world.bytes name) P
 
 -- ---- what is written
 
--- a program of the description, as far as its bytes are told, which is of a form that runs
+-- a program of the description, as far as its bytes are told
 pub record Runs (world : World) (description : List ℕ) (program : Program) : Type 0 where
   pub statements : List PlainStatement
   pub checked : PlainChecked
   pub of_name : List ℕ
   pub is_described : Told world description (λ text. IsDescribed text (Describes statements checked of_name))
-  pub is_built : is_built checked ≡ true
   pub is_program : IsProgramOf checked of_name program
 
 -- the commands and the count of ignored records of the script, as far as its bytes are told
@@ -117,23 +115,14 @@ RefusesDescription old new name (status.TooLarge limit.Cells) = Told old name (�
 RefusesDescription old new name (status.ReadFault zero) = Rose (old.faults name) (new.faults name)
 RefusesDescription old new name other = ⊥
 
--- the description is accepted and within the limits, and of a form that does not run yet
-pub record RunsNot (world : World) (description : List ℕ) : Type 0 where
-  pub statements : List PlainStatement
-  pub checked : PlainChecked
-  pub of_name : List ℕ
-  pub is_described : Told world description (λ text. IsDescribed text (Describes statements checked of_name))
-  pub is_built : is_built checked ≡ false
-
--- the description runs, and of its program and the bytes of the script this is so
+-- of a program of the description and of the bytes of the script this is so
 pub record Meets (world : World) (description script : List ℕ) (P : Program → List ℕ → Type 0) : Type 0 where
   pub program : Program
   pub runs : Runs world description program
   pub is_script : Told world script (P program)
 
--- what a status says that refuses the form of an accepted description, or the script, which is input 1
+-- what a status says that refuses the script, which is input 1
 abbrev pub RefusesScript : World → World → List ℕ → List ℕ → Status → Type 0
-RefusesScript old new description script (status.NotBuilt zero) = RunsNot old description
 RefusesScript old new description script (status.ReadFault (suc zero)) =
     Rose (old.faults script) (new.faults script) × ((program : Program) × Runs old description program)
 RefusesScript old new description script (status.TooLarge limit.Script) =
@@ -186,16 +175,13 @@ of_merged (Err refused.OutOfMemory) = status.OutOfMemory
 abbrev pub script_outcome : Program → List ℕ → Status
 script_outcome program text = if nat_lt longest (length text) then status.TooLarge limit.Script else of_merged (merged program text)
 
-abbrev pub IsBuiltOutcome : Bool → PlainChecked → List ℕ → List ℕ → Status → Type 0
-IsBuiltOutcome false checked of_name script s = s ≡ status.NotBuilt 0
-IsBuiltOutcome true checked of_name script s = (program : Program) × IsProgramOf checked of_name program × (s ≡ script_outcome program script)
-
 -- the status that a description and the bytes of a script come to
 abbrev pub IsRecogniseOutcome : Described → List ℕ → Status → Type 0
 IsRecogniseOutcome TooLong script s = s ≡ status.TooLarge limit.Description
 IsRecogniseOutcome (Faulty why) script s = s ≡ status.BadDescription why
 IsRecogniseOutcome (Exceeds which) script s = s ≡ status.TooLarge which
-IsRecogniseOutcome (Describes statements checked of_name) script s = IsBuiltOutcome (is_built checked) checked of_name script s
+IsRecogniseOutcome (Describes statements checked of_name) script s =
+    (program : Program) × IsProgramOf checked of_name program × (s ≡ script_outcome program script)
 
 -- the status that a description alone comes to
 abbrev pub ground_outcome : Described → Status

@@ -2,14 +2,14 @@
 // runs out, the text keeps what it had, and may have a part of what was to be added behind it.
 ghost use Rattle.std.specs.Prelude.{◌≡◌, ◌^◌, ◌<◌, ◌++◌, [], ◌∷◌, not, map, flat_map, length, sum_by, count_by, codes, decimal, OnOk};
 ghost use Rattle.ground_types.specs.History.{is_seal};
-ghost use Rattle.rtec_main.specs.Recognised.{plain_rows};
+ghost use Rattle.delay_revise.specs.Published.{published};
 ghost use Rattle.simple_fluent.specs.Rows.{pairs};
 ghost use Rattle.rtec_main.specs.Report.{has_reply, reply_count_text, entries_line, span_count, point_count, text_of_lines};
 ghost use Rattle.rtec_main.specs.Printed.{totals_line, end_of};
 
 use crate::printing::{put_number, put_text, reply_word};
-use crate::recognise::Recognised;
 use crate::replies::count_seals;
+use delay_revise::Recognised;
 use ground_types::{Entry, Reply};
 use rt_base::OutOfMemory;
 use span_algebra::{Spans, UnitRows};
@@ -111,7 +111,7 @@ fn count_spans(rows: &[Spans]) -> u128
 
 // How many spans the rows of a unit have.
 fn unit_spans(rows: &UnitRows) -> u128
-    ensures { result ≡ span_count (plain_rows rows.now) }
+    ensures { result ≡ span_count (published rows.now) }
 {
     match rows {
         UnitRows::Fluent(rows) => count_spans(rows.as_slice()),
@@ -121,7 +121,7 @@ fn unit_spans(rows: &UnitRows) -> u128
 
 // How many points the row of a derived event has.
 fn unit_points(rows: &UnitRows) -> u128
-    ensures { result ≡ point_count (plain_rows rows.now) }
+    ensures { result ≡ point_count (published rows.now) }
 {
     match rows {
         UnitRows::Fluent(_) => 0,
@@ -131,16 +131,16 @@ fn unit_points(rows: &UnitRows) -> u128
 
 // How many spans the rows of all units have.
 fn all_spans(rows: &[UnitRows]) -> u128
-    requires { sum_by (λ unit. span_count (plain_rows unit)) rows.now < 2 ^ 128 }
-    ensures { result ≡ sum_by (λ unit. span_count (plain_rows unit)) rows.now }
+    requires { sum_by (λ unit. span_count (published unit)) rows.now < 2 ^ 128 }
+    ensures { result ≡ sum_by (λ unit. span_count (published unit)) rows.now }
 {
     rows.iter().map(unit_spans).sum()
 }
 
 // How many points the rows of all derived events have.
 fn all_points(rows: &[UnitRows]) -> u128
-    requires { sum_by (λ unit. point_count (plain_rows unit)) rows.now < 2 ^ 128 }
-    ensures { result ≡ sum_by (λ unit. point_count (plain_rows unit)) rows.now }
+    requires { sum_by (λ unit. point_count (published unit)) rows.now < 2 ^ 128 }
+    ensures { result ≡ sum_by (λ unit. point_count (published unit)) rows.now }
 {
     rows.iter().map(unit_points).sum()
 }
@@ -175,11 +175,11 @@ pub fn put_end(
     ignored: u64,
     recognised: &Recognised,
 ) -> Result<(), OutOfMemory>
-    requires spans { sum_by (λ unit. span_count (plain_rows unit)) recognised.now.rows < 2 ^ 128 }
-    requires points { sum_by (λ unit. point_count (plain_rows unit)) recognised.now.rows < 2 ^ 128 }
+    requires spans { sum_by (λ unit. span_count (published unit)) recognised.now.rows < 2 ^ 128 }
+    requires points { sum_by (λ unit. point_count (published unit)) recognised.now.rows < 2 ^ 128 }
     ensures { OnOk result (out.new.items
         ≡ out.old.items
-        ++ text_of_lines (end_of history.now ignored (map plain_rows recognised.now.rows) recognised.now.evaluations)) }
+        ++ text_of_lines (end_of history.now ignored (map published recognised.now.rows) recognised.now.evaluations)) }
 {
     put_ignored(out, ignored)?;
     put_entries(out, history)?;

@@ -4,7 +4,6 @@
 //! private parts. `main` makes the real inputs, the real standard output and a gate that holds nobody, and calls `run`.
 #![tactic(auto)]
 
-mod built;
 mod ends;
 mod ground_text;
 mod inputs;

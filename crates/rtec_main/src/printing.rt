@@ -7,7 +7,7 @@ ghost use Rattle.ground_types.specs.Publication.{fluent_rows};
 ghost use Rattle.ground_types.specs.Sound.{IsSound};
 ghost use Rattle.domain_decl.specs.Sound.{is_sound_domain};
 ghost use Rattle.rtec_main.specs.Atoms.{entity_word, entity_words, atom_by, event_atom, unit_atom};
-ghost use Rattle.rtec_main.specs.Recognised.{plain_rows};
+ghost use Rattle.delay_revise.specs.Published.{published};
 ghost use Rattle.simple_fluent.specs.Rows.{pairs};
 ghost use Rattle.rtec_main.specs.Report.{value_words, act_word, reply_word, span_text, fluent_lines, unit_lines, row_lines, query_line, text_of_lines};
 ghost use Rattle.rtec_main.specs.Printed.{feed_lines, event_lines};
@@ -292,7 +292,7 @@ fn put_unit(
     rows: &UnitRows,
 ) -> Result<(), OutOfMemory>
     ensures { OnOk result (out.new.items
-        ≡ out.old.items ++ text_of_lines (unit_lines program.now q unit.now (plain_rows rows.now))) }
+        ≡ out.old.items ++ text_of_lines (unit_lines program.now q unit.now (published rows.now))) }
 {
     match rows {
         UnitRows::Fluent(rows) => put_fluents(out, program, q, unit, rows.as_slice()),
@@ -308,7 +308,7 @@ pub fn put_rows(
     rows: &[UnitRows],
 ) -> Result<(), OutOfMemory>
     ensures { OnOk result (out.new.items
-        ≡ out.old.items ++ text_of_lines (row_lines program.now q (map plain_rows rows.now))) }
+        ≡ out.old.items ++ text_of_lines (row_lines program.now q (map published rows.now))) }
 {
     for (unit, rows) in program.units.as_slice().iter().zip(rows) {
         put_unit(out, program, q, unit, rows)?;

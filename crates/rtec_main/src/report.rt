@@ -1,19 +1,20 @@
-// The report of a plain program and script.
+// The report of a script that runs.
 ghost use Rattle.std.specs.Prelude.{◌≡◌, ◌≤◌, ◌++◌, true, map, flat_map, OnOk, IfOk};
 ghost use Rattle.std.specs.List.{list_all};
 ghost use Rattle.ground_types.specs.Windows.{IsSoundPlan};
 ghost use Rattle.ground_types.specs.Sound.{IsSound};
 ghost use Rattle.domain_decl.specs.Sound.{is_sound_domain};
-ghost use Rattle.rtec_main.specs.Built.{IsPlain};
+ghost use Rattle.rtec_main.specs.Programs.{IsDeclared};
 ghost use Rattle.rtec_main.specs.Script.{commands_of, IsPlainScript};
-ghost use Rattle.rtec_main.specs.Recognised.{plain_rows};
+ghost use Rattle.delay_revise.specs.Published.{published};
 ghost use Rattle.rtec_main.specs.Report.{report_text, text_of_lines};
 ghost use Rattle.rtec_main.specs.Printed.{feed_lines, block_of};
 
 use crate::ends::put_end;
 use crate::printing::{put_feed, put_query, put_rows};
-use crate::recognise::{Recognised, recognise};
+use crate::recognise::recognise;
 use crate::replies::history;
+use delay_revise::Recognised;
 use ground_types::{Entry, Program};
 use rt_base::OutOfMemory;
 use std::alloc::Global;
@@ -48,7 +49,7 @@ fn put_block(
     requires within { k ≤ program.now.plan.queries }
     ensures { OnOk result (out.new.items
         ≡ out.old.items
-        ++ text_of_lines (block_of program.now k (map plain_rows recognised.now.rows) recognised.now.evaluations)) }
+        ++ text_of_lines (block_of program.now k (map published recognised.now.rows) recognised.now.evaluations)) }
 {
     let plan = &program.plan;
     let q = plan.right(k);
@@ -58,7 +59,7 @@ fn put_block(
 
 /// The report text of a script that runs. A text that memory did not suffice for is dropped.
 pub fn report(alloc: Global, program: &Program, script: &Script) -> Result<Vec<u8>, OutOfMemory>
-    requires program { IsPlain program.now }
+    requires program { IsDeclared program.now }
     requires domains { list_all is_sound_domain program.now.domains ≡ true }
     requires commands { IsPlainScript (commands_of script.now.commands) }
     ensures { IfOk result (λ text. text.items ≡ report_text program.now (commands_of script.now.commands) script.now.ignored) }

@@ -3,7 +3,6 @@ ghost use Rattle.std.specs.Prelude.{◌≡◌, ◌≤◌, ℕ, List};
 ghost use Rattle.rtec_main.specs.Run.{Recognise, Ground, MeansOfWords, Completes, task_of};
 ghost use Rattle.rtec_main.specs.Tasks.{task_by, Answers, ConcludesAny};
 
-use crate::built::is_built;
 use crate::ground_text::ground_text;
 use crate::inputs::read_description;
 use crate::report::report;
@@ -38,9 +37,6 @@ fn report_of<I: Inputs>(
     ensures later { (name : List ℕ) → I.faults inputs.old name ≤ I.faults inputs.new name }
 {
     let described = read_description(alloc, inputs, description)?;
-    if !is_built(alloc, &described.checked)? {
-        return Err(Status::NotBuilt { input: 0 });
-    }
     let script = read_script(alloc, inputs, script, &described.program)?;
     Ok(report(alloc, &described.program, &script)?)
 }
@@ -83,12 +79,11 @@ fn text_of<I: Inputs>(alloc: Global, inputs: &mut I, task: Task) -> Result<Vec<u
 /// and the report, or the ground text. BadDescription: reading the description's statements, checking them or ordering
 /// them in layers refuses, with the fault. TooLarge: a counted quantity exceeds its limit, with the first that does:
 /// the bytes of the description, then units, events, assignments, rules, conditions and cells, then the bytes and the
-/// records of the script. BadScript: a record has no form, with the first. NotBuilt: the description of `recognise` is
-/// accepted, within the limits and of a form that does not run yet (input 0), or its script is not at most 1,000 adds
-/// and one seal (input 1); `ground` is never answered so. ReadFault and WriteFault: the count of faults rose in this
-/// call. Each comes only where what is tested before it passed: the description before the script, and of each its
-/// faults of reading, its length, its content. All but Done and WriteFault write nothing. Want of memory alone has no
-/// cause. `complete` says it the other way round: what the status is where nothing failed.
+/// records of the script. BadScript: a record has no form, with the first. NotBuilt: the script of `recognise` is not at
+/// most 1,000 adds and one seal (input 1); `ground` is never answered so. ReadFault and WriteFault: the count of faults
+/// rose in this call. Each comes only where what is tested before it passed: the description before the script, and of
+/// each its faults of reading, its length, its content. All but Done and WriteFault write nothing. Want of memory alone
+/// has no cause. `complete` says it the other way round: what the status is where nothing failed.
 pub fn run<R: Threads + Sync, I: Inputs, K: Sink, G: Gate>(
     _rt: &R,
     alloc: Global,

@@ -87,7 +87,7 @@ pub enum Status {
         number: u32,
         line: u32,
     },
-    /// The description is of a form that does not run yet, or the script is.
+    /// The script is of a form that does not run yet.
     NotBuilt {
         input: u8,
     },
@@ -200,7 +200,7 @@ mod tests {
                 9,
                 "report differs at line 5",
             ),
-            (Status::NotBuilt { input: 0 }, 10, "input 0 is not built"),
+            (Status::NotBuilt { input: 1 }, 10, "input 1 is not built"),
         ] {
             assert_eq!(rt; status.number(), number, "{line}");
             assert_eq!(rt; status.to_string(rt.alloc())?.as_str(), line);

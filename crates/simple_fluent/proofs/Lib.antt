@@ -1,5 +1,6 @@
-pub mod GoesOn
-pub mod Left
-pub mod Normal
+pub mod Merging
+pub mod Inertia
+pub mod Fronts
 pub mod Swept
+pub mod Normal
 pub mod Sweeping

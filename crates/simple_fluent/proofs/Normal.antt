@@ -1,10 +1,12 @@
--- Spans that make a row are a normal list.
-use Rattle.std.proofs.Common.{◌≡◌, ℕ, ◌+◌, ◌-◌, Bool, List, [], ◌∷◌, sym, subst, arith}
+-- Where a span is open in a row, it can be closed.
+use Rattle.std.proofs.Common.{ℕ, ◌+◌, Bool, List, [], ◌∷◌, ◌++◌, Some, sym, subst, arith}
+use Rattle.std.proofs.lemmas.List.{map-append}
 use Rattle.span_algebra.specs.declared.spans.Span.{Span}
 use Rattle.span_algebra.specs.Normal.{IsNormalFrom, IsNormal}
-use Rattle.ground_types.specs.Rows.{row, IsRisingFrom}
-use Rattle.ground_types.proofs.Rows.{AreRuns, runs_are}
-use Rattle.simple_fluent.specs.Rows.{pairs}
+use Rattle.ground_types.specs.Rows.{IsRisingFrom}
+use Rattle.ground_types.proofs.Rows.{rising_push}
+use Rattle.simple_fluent.specs.Rows.{pair, pairs}
+use Rattle.simple_fluent.proofs.Swept.{IsSwept}
 
 normal_from : (floor : ℕ) (spans : List Span) → IsRisingFrom floor (pairs spans) → IsNormalFrom floor spans
 normal_from floor [] rising = tt
@@ -14,7 +16,9 @@ lower : (floor : ℕ) (spans : List Span) → IsNormalFrom floor spans → IsNor
 lower floor [] normal = tt
 lower floor (s ∷ rest) normal = (omega arith, normal.1, normal.2)
 
-pub row_is_normal : (test : ℕ → Bool) (w q : ℕ) (spans : List Span) → pairs spans ≡ row test w q → IsNormal spans
-row_is_normal test w q spans is =
-    let runs : AreRuns test w (q + 1 - w) (row test w q) = runs_are test w (q + 1 - w) in
-    lower w spans (normal_from w spans (subst (λ (xs : List (ℕ × ℕ)). IsRisingFrom w xs) (sym is) runs.rising))
+pub can_close : (test : ℕ → Bool) (w at since : ℕ) (spans : List Span) → IsSwept test w at (pairs spans) (Some since) →
+    IsNormal (spans ++ (record { after = since; until = at }) ∷ [])
+can_close test w at since spans s =
+    lower w _ (normal_from w _
+    (subst (λ (xs : List (ℕ × ℕ)). IsRisingFrom w xs) (sym (map-append pair spans (record { after = since; until = at } ∷ [])))
+    (rising_push w since at (pairs spans) s.rising s.within.0 s.within.1 s.below)))

@@ -7,7 +7,7 @@ use Rattle.std.proofs.lemmas.Bool.Decides.{nat_tests}
 use Rattle.ground_types.specs.Rows.{IsRisingFrom, covers, IsRowByPoints}
 use Rattle.ground_types.proofs.Rows.{IsBelow, below_more, below_push, rising_push, covers_above, covers_floor, covers_append, le_or_above}
 use Rattle.simple_fluent.specs.Rows.{pairs}
-use Rattle.simple_fluent.specs.Sweep.{begun_after, closed_at}
+use Rattle.span_algebra.specs.Walk.{begun_after, closed_at}
 
 -- the open span, if there is one, has the point
 abbrev pub is_open : Option ℕ → ℕ → Bool
@@ -33,14 +33,28 @@ pub record IsSwept (test : ℕ → Bool) (w top : ℕ) (out : List (ℕ × ℕ))
   pub now : test top ≡ is_some begun
   pub each : (t : ℕ) → w < t → t ≤ top → test t ≡ (covers out t || is_open begun t)
 
-pub swept_start : (test : ℕ → Bool) (w : ℕ) → test (w + 1) ≡ false → IsSwept test w (w + 1) [] None
-swept_start test w none = record {
+open_at_start : (w : ℕ) → ltb w (w + 1) ≡ true
+open_at_start w = grind (arith, nat_tests)
+
+-- at the first value point the test is as it opens
+pub swept_start : (test : ℕ → Bool) (w : ℕ) (opens : Bool) → test (w + 1) ≡ opens → IsSwept test w (w + 1) [] (begun_after None opens w)
+swept_start test w false none = record {
   above = omega arith;
   rising = tt;
   below = tt;
   within = tt;
   now = none;
   each = λ t low high. (let is : t ≡ w + 1 = omega arith in ap test is) ∙ none;
+}
+swept_start test w true some = record {
+  above = omega arith;
+  rising = tt;
+  below = tt;
+  within = (omega arith, omega arith);
+  now = some;
+  each = λ t low high.
+      let is : t ≡ w + 1 = omega arith in
+      ap test is ∙ some ∙ sym (open_at_start w) ∙ ap (λ (u : ℕ). ltb w u) (sym is);
 }
 
 below_limit : (top : ℕ) (w : ℕ) (begun : Option ℕ) (out : List (ℕ × ℕ)) → BeginsWithin w top begun → IsBelow (limit top begun) out → IsBelow top out

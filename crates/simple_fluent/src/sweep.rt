@@ -1,39 +1,44 @@
-// The row of one value, by a sweep over the points at which it is initiated and terminated.
-ghost use Rattle.std.specs.Prelude.{◌≡◌, ◌<◌, ◌^◌, ◌-◌, ◌++◌, IfOk};
+// The rows of all values, in one sweep over the points at which something happens.
+ghost use Rattle.std.specs.Prelude.{◌≡◌, ℕ, ◌≤◌, ◌<◌, ◌^◌, ◌+◌, ◌-◌, [], length, map, replicate, IfOk};
+ghost use Rattle.std.specs.List.{AllByRecursion};
 ghost use Rattle.span_algebra.specs.Normal.{IsRising};
-ghost use Rattle.ground_types.specs.Rows.{row};
-ghost use Rattle.simple_fluent.specs.Rows.{pairs, IsInside};
-ghost use Rattle.simple_fluent.specs.Sweep.{has_it, next_of, begins_at, after_point, begun_after, closed_at};
+ghost use Rattle.simple_fluent.specs.Rows.{pairs, rows_of, IsInside, IsValueBelow};
+ghost use Rattle.simple_fluent.specs.Firsts.{least_with, RisesFrom, value_in};
+ghost use Rattle.simple_fluent.specs.Sweep.{started, after_point, next_of, is_same, terms_from, terms_after, since_after, rows_after, CanPass};
 
+use crate::firsts::{First, rest_firsts};
 use ground_types::Point;
 use rt_base::OutOfMemory;
-use span_algebra::{Span, Spans};
+use span_algebra::{Points, Span, Spans};
 use std::alloc::Global;
 
-// The lesser of the first points of two lists.
-fn next_point(inits: &[Point], terms: &[Point]) -> Option<Point>
-    ensures { result ≡ next_of inits.now terms.now }
+// The next point at which a value is initiated, or the current one terminated.
+#[inline]
+fn next_point(firsts: &[First], terms: &[Point]) -> Option<Point>
+    ensures { result ≡ next_of firsts.now terms.now }
 {
-    match (inits, terms) {
+    match (firsts, terms) {
         ([], []) => None,
         ([], [term, ..]) => Some(*term),
-        ([init, ..], []) => Some(*init),
-        ([init, ..], [term, ..]) => Some((*init).min(*term)),
+        ([first, ..], []) => Some(first.at),
+        ([first, ..], [term, ..]) => Some(first.at.min(*term)),
     }
 }
 
-// Whether the list begins with the point.
-fn begins_with(points: &[Point], at: Point) -> bool
-    ensures { result ≡ begins_at points.now at }
+// The value that is initiated at the point.
+#[inline]
+fn started_at(firsts: &[First], at: Point) -> Option<usize>
+    ensures { result ≡ started firsts.now at }
 {
-    match points {
-        [] => false,
-        [first, ..] => *first == at,
+    match firsts {
+        [first, ..] if first.at == at => Some(first.value),
+        _ => None,
     }
 }
 
 // The list without the point at its front.
-fn rest_after(points: &[Point], at: Point) -> &[Point]
+#[inline]
+fn rest_points(points: &[Point], at: Point) -> &[Point]
     ensures { result.now ≡ after_point points.now at }
 {
     match points {
@@ -42,72 +47,122 @@ fn rest_after(points: &[Point], at: Point) -> &[Point]
     }
 }
 
-// Passes a point at which the value is initiated, or else terminated: a span is opened, goes on or is closed.
-fn pass(
-    out: &mut Vec<Span>,
-    begun: Option<Point>,
-    begins: bool,
-    at: Point,
-) -> Result<Option<Point>, OutOfMemory>
-    ensures begun { IfOk result (λ now. now ≡ begun_after begun begins at) }
-    ensures out { IfOk result (λ now. out.new.items ≡ out.old.items ++ closed_at begun begins at) }
+#[inline]
+fn is_same(one: Option<usize>, two: Option<usize>) -> bool
+    ensures { result ≡ is_same one two }
 {
-    match (begun, begins) {
-        (None, true) => Ok(Some(at)),
-        (None, false) => Ok(None),
-        (Some(after), true) => Ok(Some(after)),
-        (Some(after), false) => {
-            out.push(Span { after, until: at })?;
-            Ok(None)
+    match (one, two) {
+        (None, None) => true,
+        (None, Some(_)) => false,
+        (Some(_), None) => false,
+        (Some(one), Some(two)) => one == two,
+    }
+}
+
+// The points above this one at which the value is terminated.
+fn terms_of(terms: &[Points], value: Option<usize>, above: Point, q: Point) -> &[Point]
+    requires { IsValueBelow (length terms.now) value }
+    ensures list { result.now ≡ terms_from terms.now value above q }
+    ensures rising { IsRising result.now }
+{
+    match value {
+        None => &[],
+        Some(value) => terms[value].within(above, q),
+    }
+}
+
+// The same past a point after which the value is the next one.
+#[inline]
+fn terms_past<'a>(
+    terms: &'a [Points],
+    left: &'a [Point],
+    current: Option<usize>,
+    next: Option<usize>,
+    at: Point,
+    q: Point,
+) -> &'a [Point]
+    requires next { IsValueBelow (length terms.now) next }
+    requires left { IsRising left.now }
+    ensures list { result.now ≡ terms_after terms.now left.now current next at q }
+    ensures rising { IsRising result.now }
+{
+    if is_same(current, next) {
+        rest_points(left, at)
+    } else {
+        terms_of(terms, next, at, q)
+    }
+}
+
+// Goes over a point after which the value is the next one: where that is another, the span of the one before ends.
+fn pass(
+    rows: &mut Vec<Spans>,
+    current: Option<usize>,
+    since: Point,
+    next: Option<usize>,
+    at: Point,
+) -> Result<Point, OutOfMemory>
+    requires { CanPass rows.old.items current since next at }
+    ensures since { IfOk result (λ now. now ≡ since_after current since next at) }
+    ensures rows { IfOk result (λ now. rows.new.items ≡ rows_after rows.old.items current since next at) }
+{
+    match (current, next) {
+        (None, _) => Ok(at),
+        (Some(value), Some(next)) if next == value => Ok(since),
+        (Some(value), _) => {
+            rows[value].push(Span {
+                after: since,
+                until: at,
+            })?;
+            Ok(at)
         }
     }
 }
 
-// The spans of the value. The last one, if it is open at the end of the window, goes on to the last value point.
-fn sweep(
-    alloc: Global,
-    inits: &[Point],
-    terms: &[Point],
-    w: Point,
-    q: Point,
-) -> Result<Vec<Span>, OutOfMemory>
-    requires inits_rise { IsRising inits.now }
-    requires terms_rise { IsRising terms.now }
-    requires inits_inside { IsInside w q inits.now }
-    requires terms_inside { IsInside w q terms.now }
-    requires window { w < q }
-    requires end { q < 2 ^ 64 - 1 }
-    ensures { IfOk result (λ out. pairs out.items ≡ row (has_it inits.now terms.now w) w q) }
+fn empty_rows(alloc: Global, count: usize) -> Result<Vec<Spans>, OutOfMemory>
+    ensures { IfOk result (λ rows. rows.items ≡ replicate count []) }
 {
-    let mut out = Vec::new(alloc);
-    let mut begun = None;
-    let mut inits_left = inits;
-    let mut terms_left = terms;
-    'sweep: while let Some(at) = next_point(inits_left, terms_left) {
-        begun = pass(&mut out, begun, begins_with(inits_left, at), at)?;
-        inits_left = rest_after(inits_left, at);
-        terms_left = rest_after(terms_left, at);
+    let mut rows = Vec::with_capacity(alloc, count)?;
+    for _number in 0..count {
+        rows.push(Spans::new(alloc))?;
     }
-    pass(&mut out, begun, false, q + 1)?;
-    Ok(out)
+    Ok(rows)
 }
 
-// The row of the value.
-pub fn row_of_value(
+// The rows, from the first value initiated at each point. The span that is open at the end of the window goes on to the
+// last value point.
+pub fn sweep(
     alloc: Global,
-    inits: &[Point],
-    terms: &[Point],
+    opening: Option<usize>,
+    inits: &[Points],
+    firsts: &[First],
+    terms: &[Points],
     w: Point,
     q: Point,
-) -> Result<Spans, OutOfMemory>
-    requires inits_rise { IsRising inits.now }
-    requires terms_rise { IsRising terms.now }
-    requires inits_inside { IsInside w q inits.now }
-    requires terms_inside { IsInside w q terms.now }
+) -> Result<Vec<Spans>, OutOfMemory>
+    requires opening { IsValueBelow (length inits.now) opening }
+    requires count { length inits.now ≡ length terms.now }
+    requires inits_inside { AllByRecursion (IsInside w q) inits.now }
+    requires terms_inside { AllByRecursion (IsInside w q) terms.now }
+    requires firsts_rise { RisesFrom 0 firsts.now }
+    requires firsts { (t : ℕ) → value_in firsts.now t ≡ least_with 0 inits.now t }
     requires window { w < q }
     requires end { q < 2 ^ 64 - 1 }
-    ensures { IfOk result (λ spans. pairs spans ≡ row (has_it inits.now terms.now w) w q) }
+    ensures { IfOk result (λ rows. map pairs rows.items ≡ rows_of opening inits.now terms.now w q) }
 {
-    let spans = sweep(alloc, inits, terms, w, q)?;
-    Ok(Spans::of(alloc, spans))
+    let mut rows = empty_rows(alloc, inits.len())?;
+    let mut current = opening;
+    let mut since = w;
+    let mut seen = w;
+    let mut firsts_left = firsts;
+    let mut terms_left = terms_of(terms, opening, seen, q);
+    'sweep: while let Some(at) = next_point(firsts_left, terms_left) {
+        let next = started_at(firsts_left, at);
+        since = pass(&mut rows, current, since, next, at)?;
+        terms_left = terms_past(terms, terms_left, current, next, at, q);
+        firsts_left = rest_firsts(firsts_left, at);
+        current = next;
+        seen = at;
+    }
+    pass(&mut rows, current, since, None, q + 1)?;
+    Ok(rows)
 }

@@ -1,5 +1,6 @@
 -- The points of normal lists of spans.
-use Rattle.std.proofs.Common.{◌≡◌, ◌⊎◌, inl, inr, ℕ, zero, suc, ◌+◌, ◌<◌, ◌≤◌, Bool, true, false, ltb, List, [], ◌∷◌, length, get_or, refl, sym, ◌∙◌, arith, subst, ap, Option, Some, None, Bor}
+use Rattle.std.proofs.Common.{◌≡◌, ◌⊎◌, inl, inr, ℕ, zero, suc, ◌+◌, ◌<◌, ◌≤◌, Bool, true, false, ◌&&◌, ◌||◌, leb, ltb, List, [], ◌∷◌, ◌++◌, length, get_or, refl, sym, ◌∙◌, arith, subst, ap, Option, Some, None, Bor}
+use Rattle.std.proofs.Math.Bool.{or_assoc}
 use Rattle.std.proofs.lemmas.Bool.Decides.{nat_tests}
 use Rattle.std.specs.List.{HoldsAt}
 use Rattle.std.specs.List.Sorted.{IsPartitionPoint}
@@ -22,6 +23,38 @@ covers_floor floor [] t normal low = refl
 covers_floor floor (s ∷ rest) t normal low =
     let below : t ≤ s.after = omega (arith, normal.0) in
     covers_miss s rest t (inl below) ∙ covers_floor (s.until + 1) rest t normal.2 (omega (arith, normal.0, normal.1))
+
+-- each span ends below this point
+abbrev pub IsBelow : ℕ → List Span → Type 0
+IsBelow top [] = Unit {0}
+IsBelow top (s ∷ rest) = (s.until < top) × IsBelow top rest
+
+pub below_more : (top more : ℕ) (xs : List Span) → IsBelow top xs → top ≤ more → IsBelow more xs
+below_more top more [] below le = tt
+below_more top more (s ∷ rest) below le = (omega (arith, below.0), below_more top more rest below.1 le)
+
+pub below_push : (top : ℕ) (s : Span) (xs : List Span) → IsBelow top xs → s.until < top → IsBelow top (xs ++ s ∷ [])
+below_push top s [] below lt = (lt, tt)
+below_push top s (x ∷ rest) below lt = (below.0, below_push top s rest below.1 lt)
+
+pub normal_push : (floor : ℕ) (s : Span) (xs : List Span) → IsNormalFrom floor xs → floor ≤ s.after → s.after < s.until → IsBelow s.after xs →
+    IsNormalFrom floor (xs ++ s ∷ [])
+normal_push floor s [] normal low span below = (low, span, tt)
+normal_push floor s (x ∷ rest) normal low span below =
+    (normal.0, normal.1, normal_push (x.until + 1) s rest normal.2 (omega (arith, below.0)) span below.1)
+
+-- nothing above the ends is covered
+pub covers_above : (top : ℕ) (xs : List Span) (t : ℕ) → IsBelow top xs → top ≤ t → covers xs t ≡ false
+covers_above top [] t below le = refl
+covers_above top (s ∷ rest) t below le = covers_miss s rest t (inr (omega (arith, below.0))) ∙ covers_above top rest t below.1 le
+
+pub covers_append : (xs ys : List Span) (t : ℕ) → covers (xs ++ ys) t ≡ (covers xs t || covers ys t)
+covers_append [] ys t = refl
+covers_append (s ∷ rest) ys t = rw (covers_append rest ys t) (sym (or_assoc (ltb s.after t && leb t s.until) (covers rest t) (covers ys t)))
+
+pub normal_lower : (floor less : ℕ) (xs : List Span) → IsNormalFrom floor xs → less ≤ floor → IsNormalFrom less xs
+normal_lower floor less [] normal le = tt
+normal_lower floor less (s ∷ rest) normal le = (omega (arith, normal.0), normal.1, normal.2)
 
 -- the last points of the spans rise
 until_above : (floor : ℕ) (xs : List Span) (k : ℕ) (d : Span) → IsNormalFrom floor xs → k < length xs → floor ≤ (get_or xs k d).until

@@ -22,7 +22,7 @@ has_floor floor (p ∷ rest) t rising low =
     has_miss p rest t other ∙ has_floor (p + 1) rest t rising.1 (omega (arith, rising.0))
 
 -- the points do not fall
-point_above : (floor : ℕ) (xs : List ℕ) (k : ℕ) → IsRisingFrom floor xs → k < length xs → floor ≤ get_or xs k 0
+pub point_above : (floor : ℕ) (xs : List ℕ) (k : ℕ) → IsRisingFrom floor xs → k < length xs → floor ≤ get_or xs k 0
 point_above floor [] k rising lt = absurd (omega arith)
 point_above floor (p ∷ rest) zero rising lt = rising.0
 point_above floor (p ∷ rest) (suc k) rising lt =

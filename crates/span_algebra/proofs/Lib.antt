@@ -1,4 +1,13 @@
 pub mod Numbers
 pub mod Covering
 pub mod Having
+pub mod Parts
+pub mod Inserting
+pub mod Removing
 pub mod FirstBad
+pub mod Drawing
+pub mod Borders
+pub mod Sums
+pub mod Walking
+pub mod Counting
+pub mod Cutting

@@ -1,5 +1,5 @@
 -- Normal lists of spans, rising lists of points, and the points that they have.
-use Rattle.std.specs.Prelude.{ℕ, ◌+◌, ◌<◌, ◌≤◌, nat_lt, nat_le, Bool, ◌&&◌, ◌==◌, List, [], ◌∷◌, length, take}
+use Rattle.std.specs.Prelude.{ℕ, ◌+◌, ◌<◌, ◌≤◌, nat_lt, nat_le, Bool, not, ◌&&◌, ◌==◌, if◌then◌else◌, List, [], ◌∷◌, length, take}
 use Rattle.std.specs.List.{list_any}
 use Rattle.span_algebra.specs.declared.spans.Span.{Span}
 
@@ -15,6 +15,10 @@ IsNormal spans = IsNormalFrom 0 spans
 -- some span has the point: it lies after `after`, up to and with `until`
 abbrev pub covers : List Span → ℕ → Bool
 covers spans t = list_any (λ s. nat_lt s.after t && nat_le t s.until) spans
+
+-- one of two facts holds, and not the other
+abbrev pub exactly_one : Bool → Bool → Bool
+exactly_one a b = if a then not b else b
 
 -- each point is the floor or above, and below the next
 abbrev pub IsRisingFrom : ℕ → List ℕ → Type 0

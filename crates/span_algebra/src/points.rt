@@ -1,5 +1,5 @@
 // Rising lists of points.
-ghost use Rattle.std.specs.Prelude.{◌≡◌, ◌↔◌, ◌+◌, ◌<◌, ℕ, [], length, take, IsTrue, OnOk, IfOk, IfSome, IfNone, IsOkUnless};
+ghost use Rattle.std.specs.Prelude.{◌≡◌, ◌↔◌, ◌+◌, ◌<◌, ◌==◌, ◌||◌, ◌&&◌, not, nat_lt, nat_le, ℕ, [], length, take, filter, IsTrue, OnOk, OnErr, IfOk, IfSome, IfNone, IsOkUnless};
 ghost use Rattle.span_algebra.specs.Normal.{IsRising, IsFirstBad, has};
 
 use crate::{ListRefused, Point};
@@ -107,5 +107,52 @@ impl Points {
         ensures { result ≡ has self.now at }
     {
         self.points.binary_search(&at).is_ok()
+    }
+
+    /// The points above `w`, up to and with `q`. Two searches by halves; it takes no memory.
+    pub fn within(&self, w: Point, q: Point) -> &[Point]
+        ensures list { result.now ≡ filter (λ t. nat_lt w t && nat_le t q) self.now }
+        ensures rising { IsRising result.now }
+    {
+        let above = &self.points[self.points.partition_point(|point| *point <= w)..];
+        &above[..above.partition_point(|point| *point <= q)]
+    }
+
+    /// Puts a point among them, and says whether it was not there. The search goes by halves, and the points above it move up
+    /// by one place. `OutOfMemory` leaves the points as they were.
+    pub fn insert(&mut self, at: Point) -> Result<bool, OutOfMemory>
+        ensures added { IfOk result (λ added. added ≡ not (has self.old at)) }
+        ensures points { OnOk result ((t : ℕ) → has self.new t ≡ (has self.old t || (t == at))) }
+        ensures refused { OnErr result (self.new ≡ self.old) }
+    {
+        match self.points.binary_search(&at) {
+            Ok(_) => Ok(false),
+            Err(place) => {
+                self.points.insert(place, at)?;
+                Ok(true)
+            }
+        }
+    }
+
+    /// Takes a point away, and says whether it was there. The search goes by halves, and the points above it move down by one
+    /// place. It takes no memory.
+    pub fn remove(&mut self, at: Point) -> bool
+        ensures removed { result ≡ has self.old at }
+        ensures points { (t : ℕ) → has self.new t ≡ (has self.old t && not (t == at)) }
+    {
+        match self.points.binary_search(&at) {
+            Ok(place) => {
+                self.points.remove(place);
+                true
+            }
+            Err(_) => false,
+        }
+    }
+
+    /// Takes the points up to and with `w` away. One walk over the points; it takes no memory.
+    pub fn drop_until(&mut self, w: Point)
+        ensures { self.new ≡ filter (λ t. nat_lt w t) self.old }
+    {
+        self.points.retain(|point| *point > w);
     }
 }

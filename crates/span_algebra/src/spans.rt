@@ -1,5 +1,5 @@
 // Normal lists of spans.
-ghost use Rattle.std.specs.Prelude.{◌≡◌, ◌↔◌, ◌+◌, ◌<◌, ℕ, [], length, take, IsTrue, OnOk, IfOk, IfSome, IfNone, IsOkUnless};
+ghost use Rattle.std.specs.Prelude.{◌≡◌, ◌↔◌, ◌+◌, ◌<◌, ◌++◌, ◌∷◌, ℕ, [], length, take, IsTrue, OnOk, OnErr, IfOk, IfSome, IfNone, IsOkUnless};
 ghost use Rattle.span_algebra.specs.Normal.{IsNormal, IsFirstBad, covers};
 
 use crate::{ListRefused, Point};
@@ -93,6 +93,16 @@ impl Spans {
         ensures { result ≡ spans.items }
     {
         Spans { alloc, spans }
+    }
+
+    /// Puts a span after the others. `OutOfMemory` leaves the spans as they were.
+    pub fn push(&mut self, span: Span) -> Result<(), OutOfMemory>
+        requires { IsNormal (self.old ++ span ∷ []) }
+        ensures pushed { OnOk result (self.new ≡ self.old ++ span ∷ []) }
+        ensures refused { OnErr result (self.new ≡ self.old) }
+    {
+        self.spans.push(span)?;
+        Ok(())
     }
 
     /// The same spans again, or `OutOfMemory`.

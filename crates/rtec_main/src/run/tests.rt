@@ -92,6 +92,7 @@ fn changed(alloc: Global, text: &str, from: &str, to: &str) -> Result<String, Fa
 
 mod descriptions;
 mod grounding;
+mod rows;
 mod scripts;
 
 #[test]

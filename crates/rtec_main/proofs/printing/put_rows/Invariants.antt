@@ -1,7 +1,7 @@
 use Rattle.std.proofs.Common.{◌≡◌, ◌++◌, length, take, map}
 use Rattle.std.specs.Prelude.{flat_map}
 use Rattle.std.specs.List.{zip}
-use Rattle.rtec_main.specs.Recognised.{plain_rows}
+use Rattle.delay_revise.specs.Published.{published}
 use Rattle.rtec_main.specs.Report.{unit_lines, text_of_lines}
 use Rattle.rtec_main.proofs.printing.put_rows.Given as goal
 
@@ -10,4 +10,4 @@ invariant-loop-unit l =
     l.out.items
     ≡ l.fn.out.items
     ++ text_of_lines
-    (flat_map (λ unit. unit_lines l.program l.q unit.0 unit.1) (take (length l.yielded) (zip l.program.units (map plain_rows l.rows))))
+    (flat_map (λ unit. unit_lines l.program l.q unit.0 unit.1) (take (length l.yielded) (zip l.program.units (map published l.rows))))

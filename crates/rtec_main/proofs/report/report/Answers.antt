@@ -5,7 +5,8 @@ use Rattle.ground_types.specs.declared.entries.Command.{Command}
 use Rattle.ground_types.specs.declared.entries.Entry.{Entry}
 use Rattle.stream_read.specs.declared.script.Placed.{Placed}
 use Rattle.rtec_main.specs.Script.{commands_of}
-use Rattle.rtec_main.specs.Recognised.{IsPlainHistory, plain_rows}
+use Rattle.delay_revise.specs.Published.{published}
+use Rattle.rtec_main.specs.Recognised.{IsPlainHistory}
 use Rattle.rtec_main.specs.Report.{history_of}
 use Rattle.rtec_main.proofs.Counts.{few_spans, few_points}
 use Rattle.rtec_main.proofs.Joining.{report_joins}
@@ -27,7 +28,7 @@ returns c =
     let made : c.in_ok-history.history.items ≡ history_of program.plan commands =
     c.in_ok-history.ensures.exact ∙ ap (λ (p : List Placed). history_of program.plan (commands_of p)) placed in
     let told : c.deref.result.now ≡ history_of program.plan commands = c.deref.ensures.value ∙ made in
-    let joined = report_joins program commands (map plain_rows c.in_ok-recognised.recognised.rows) c.in_ok-recognised.recognised.evaluations
+    let joined = report_joins program commands (map published c.in_ok-recognised.recognised.rows) c.in_ok-recognised.recognised.evaluations
     c.args.script.now.ignored
     (subst IsPlainHistory made c.in_ok-history.ensures.plain)
     (c.in_ok-recognised.ensures.rows ∙ ap (λ (h : List Entry). (publication program h 0).rows) told)

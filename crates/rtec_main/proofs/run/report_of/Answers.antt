@@ -3,10 +3,10 @@ use Rattle.rtec_main.specs.declared.status.Status.TheVariants as status
 use Rattle.rtec_main.specs.Reads.{description_status, script_status, IsScriptOf}
 use Rattle.rtec_main.specs.Run.{Concludes, World, Recognise}
 use Rattle.rtec_main.specs.Tasks.{world_of, status_of, Gives}
-use Rattle.rtec_main.proofs.PlainPrograms.{plain_program_is}
+use Rattle.rtec_main.proofs.DeclaredPrograms.{declared_program_is}
 use Rattle.rtec_main.proofs.Refusals.{script_refused_before}
-use Rattle.rtec_main.proofs.Running.{not_built, refused_script, report_given}
-use Rattle.rtec_main.proofs.Concluding.{spent_report, refused_report_concludes, not_built_concludes, refused_script_concludes, report_concludes}
+use Rattle.rtec_main.proofs.Running.{refused_script, report_given}
+use Rattle.rtec_main.proofs.Concluding.{spent_report, refused_report_concludes, refused_script_concludes, report_concludes}
 use Rattle.rtec_main.proofs.run.report_of.Goals as goal
 
 pub returns-in_err-described-clause-complete : goal.returns-in_err-described-clause-complete
@@ -18,22 +18,6 @@ returns-in_err-described-clause-complete g c =
     subst (λ r. Concludes old new (Recognise c.args.description.now c.args.script.now) (status_of r)) (sym is)
     (refused_report_concludes old new c.args.description.now c.args.script.now c.in_err-described.field-0.0 c.in_err-described.ensures.err)
 
-pub returns-then-not-branch-clause-answer : goal.returns-then-not-branch-clause-answer
-returns-then-not-branch-clause-answer g c =
-    λ taken writes.
-    let old : World = world_of (g.I.Inputs.bytes c.args.inputs.now) (g.I.Inputs.faults c.args.inputs.now) taken writes in
-    let new : World = world_of (g.I.Inputs.bytes c.args.inputs.now) (g.I.Inputs.faults c.read_description.new.inputs) taken writes in
-    not_built old new c.args.description.now c.args.script.now c.in_ok-described.described c.in_ok-described.ensures.ok
-    (sym c.in_ok-is_built.ensures ∙ c.if-not-branch.true)
-
-pub returns-then-not-branch-clause-complete : goal.returns-then-not-branch-clause-complete
-returns-then-not-branch-clause-complete g c =
-    λ taken writes.
-    let old : World = world_of (g.I.Inputs.bytes c.args.inputs.now) (g.I.Inputs.faults c.args.inputs.now) taken writes in
-    let new : World = world_of (g.I.Inputs.bytes c.args.inputs.now) (g.I.Inputs.faults c.read_description.new.inputs) taken writes in
-    not_built_concludes old new c.args.description.now c.args.script.now c.in_ok-described.described c.in_ok-described.ensures.ok
-    (sym c.in_ok-is_built.ensures ∙ c.if-not-branch.true)
-
 pub returns-in_err-script-clause-answer : goal.returns-in_err-script-clause-answer
 returns-in_err-script-clause-answer g c =
     λ taken writes.
@@ -42,7 +26,7 @@ returns-in_err-script-clause-answer g c =
     let is : c.from_residual-in_err-script.result ≡ Err (script_status c.in_err-script.field-0.0) = search (rules, c.from_residual-in_err-script.ensures) in
     subst (λ r. Gives old new (Recognise c.args.description.now c.args.script.now) r) (sym is)
     (refused_script old new c.args.description.now c.args.script.now c.in_ok-described.described c.in_ok-described.ensures.sound c.in_ok-described.ensures.ok
-    (sym c.in_ok-is_built.ensures ∙ c.if-not-branch.false) c.in_err-script.field-0.0
+    c.in_err-script.field-0.0
     (script_refused_before (old.bytes c.args.script.now) (g.I.Inputs.bytes c.read_description.new.inputs c.args.script.now)
     (old.faults c.args.script.now) (g.I.Inputs.faults c.read_description.new.inputs c.args.script.now) (new.faults c.args.script.now)
     c.in_ok-described.described.program c.in_err-script.field-0.0
@@ -56,7 +40,7 @@ returns-in_err-script-clause-complete g c =
     let is : c.from_residual-in_err-script.result ≡ Err (script_status c.in_err-script.field-0.0) = search (rules, c.from_residual-in_err-script.ensures) in
     subst (λ r. Concludes old new (Recognise c.args.description.now c.args.script.now) (status_of r)) (sym is)
     (refused_script_concludes old new c.args.description.now c.args.script.now c.in_ok-described.described c.in_ok-described.ensures.sound c.in_ok-described.ensures.ok
-    (sym c.in_ok-is_built.ensures ∙ c.if-not-branch.false) c.in_err-script.field-0.0
+    c.in_err-script.field-0.0
     (script_refused_before (old.bytes c.args.script.now) (g.I.Inputs.bytes c.read_description.new.inputs c.args.script.now)
     (old.faults c.args.script.now) (g.I.Inputs.faults c.read_description.new.inputs c.args.script.now) (new.faults c.args.script.now)
     c.in_ok-described.described.program c.in_err-script.field-0.0
@@ -64,7 +48,7 @@ returns-in_err-script-clause-complete g c =
 
 pub report-requires-clause-program : goal.report-requires-clause-program
 report-requires-clause-program g c =
-    plain_program_is c.in_ok-described.described c.in_ok-described.ensures.sound (sym c.in_ok-is_built.ensures ∙ c.if-not-branch.false)
+    declared_program_is c.in_ok-described.described c.in_ok-described.ensures.sound
 
 pub returns-in_err-report-clause-complete : goal.returns-in_err-report-clause-complete
 returns-in_err-report-clause-complete g c =
@@ -83,7 +67,7 @@ returns-clause-answer g c =
     λ taken writes.
     let old : World = world_of (g.I.Inputs.bytes c.args.inputs.now) (g.I.Inputs.faults c.args.inputs.now) taken writes in
     report_given old c.args.description.now c.args.script.now c.in_ok-described.described c.in_ok-described.ensures.sound c.in_ok-described.ensures.ok
-    (sym c.in_ok-is_built.ensures ∙ c.if-not-branch.false) c.in_ok-script.script
+    c.in_ok-script.script
     (subst (λ (b : Option (List ℕ)). IfSome b (λ text. IsScriptOf c.in_ok-described.described.program text c.in_ok-script.script)) (c.in_ok-described.ensures.same c.args.script.now) c.in_ok-script.ensures.ok)
     c.in_ok-script.ensures.plain _ c.in_ok-report.ensures
 
@@ -93,7 +77,7 @@ returns-clause-complete g c =
     let old : World = world_of (g.I.Inputs.bytes c.args.inputs.now) (g.I.Inputs.faults c.args.inputs.now) taken writes in
     let new : World = world_of (g.I.Inputs.bytes c.args.inputs.now) (g.I.Inputs.faults c.read_script.new.inputs) taken writes in
     report_concludes old new c.args.description.now c.args.script.now c.in_ok-described.described c.in_ok-described.ensures.sound c.in_ok-described.ensures.ok
-    (sym c.in_ok-is_built.ensures ∙ c.if-not-branch.false) c.in_ok-script.script
+    c.in_ok-script.script
     (subst (λ (b : Option (List ℕ)). IfSome b (λ text. IsScriptOf c.in_ok-described.described.program text c.in_ok-script.script)) (c.in_ok-described.ensures.same c.args.script.now) c.in_ok-script.ensures.ok)
     c.in_ok-script.ensures.plain
 

@@ -1,4 +1,4 @@
-// Descriptions that run, that do not run yet, and that are refused.
+// Descriptions that run, and that are refused.
 use super::{FIRST_RUN, LAMP, MEETING, changed, file, grounded, ran, ran_over};
 use crate::status::{DescFault, Status};
 use rt_base::Limit;
@@ -39,41 +39,6 @@ fn spaces_comments_and_the_order_of_declarations_are_free(rt: HostRuntime) -> Re
 }
 
 #[test]
-fn what_is_accepted_and_not_built_is_said_so(rt: HostRuntime) -> Result<(), Fail> {
-    let alloc = rt.alloc();
-    let rows = [
-        (" [true]", " [true, false]"),
-        ("input up.", "input up. static idle [true]."),
-        ("input up.", "input up. derived alarm."),
-        (SWITCH, "initially(on=true)."),
-        (
-            SWITCH,
-            "simple other [true]. initiatedAt(on=true) :- happensAt(up), holdsAt(other=true).",
-        ),
-        (
-            SWITCH,
-            "initiatedAt(on=true) :- happensAt(up), not happensAt(down).",
-        ),
-        (
-            SWITCH,
-            "simple other [true]. initiatedAt(on=true) :- happensAt(end(other=true)).",
-        ),
-        // A rule counts where it has no instance.
-        (
-            SWITCH,
-            "domain v []. simple far(v) [true]. initially(far(X)=true).",
-        ),
-    ];
-    for (from, to) in rows {
-        let description = changed(alloc, LAMP, from, to)?;
-        let (status, bytes) = ran(&rt, description.as_bytes(), FIRST_RUN.as_bytes())?;
-        assert_eq!(rt; status, Status::NotBuilt { input: 0 }, "{to:?}");
-        assert_eq!(rt; bytes.len(), 0, "{to:?}");
-    }
-    Ok(())
-}
-
-#[test]
 fn cycles_are_faults(rt: HostRuntime) -> Result<(), Fail> {
     let alloc = rt.alloc();
     let front = "window(10).\nstep(5).\ninput up.\nsimple a [true].\nsimple b [true].\n";
@@ -102,12 +67,29 @@ fn entities(alloc: Global, count: u32) -> Result<String, Fail> {
     Ok(text)
 }
 
+const PAIRS: &str = "input e(d, d). simple on [true].\n\
+    initiatedAt(on=true) :- happensAt(e(X, Y)), X \\= Y.";
+
+// Each assignment has to be looked at, since the words of a pair have to differ.
+#[test]
+fn rules_past_their_limit_are_refused(rt: HostRuntime) -> Result<(), Fail> {
+    let alloc = rt.alloc();
+    let domain = entities(alloc, 513)?;
+    let description = format!(in alloc; "window(10).\nstep(5).\ndomain d [{domain}].\n{PAIRS}")?;
+    let (status, _) = ran(&rt, description.as_bytes(), b"")?;
+    assert_eq!(rt;
+        status,
+        Status::TooLarge {
+            limit: Limit::Rules
+        }
+    );
+    Ok(())
+}
+
 #[test]
 fn what_exceeds_a_limit_is_refused(rt: HostRuntime) -> Result<(), Fail> {
     let alloc = rt.alloc();
-    let pairs = "input e(d, d). simple on [true].\n\
-        initiatedAt(on=true) :- happensAt(e(X, Y)), X \\= Y.";
-    let more = format!(in alloc; "{pairs} input up. terminatedAt(on=true) :- happensAt(up).")?;
+    let more = format!(in alloc; "{PAIRS} input up. terminatedAt(on=true) :- happensAt(up).")?;
     let rows = [
         (
             4097,
@@ -133,13 +115,6 @@ fn what_exceeds_a_limit_is_refused(rt: HostRuntime) -> Result<(), Fail> {
             "simple p(d, d) [true].",
             Status::TooLarge {
                 limit: Limit::Cells,
-            },
-        ),
-        (
-            1024,
-            pairs,
-            Status::TooLarge {
-                limit: Limit::Rules,
             },
         ),
         (
@@ -341,8 +316,8 @@ fn the_description_is_refused_before_the_script_is_read(rt: HostRuntime) -> Resu
             Status::BadDescription(DescFault::BadByte { line: 1 }),
         ),
         (
-            "window(1). step(1). derived alarm.",
-            Status::NotBuilt { input: 0 },
+            "window(1). step(1). static alarm [true].",
+            Status::ReadFault { input: 1 },
         ),
         (MEETING, Status::ReadFault { input: 1 }),
         (LAMP, Status::ReadFault { input: 1 }),

@@ -1,12 +1,10 @@
-use Rattle.std.proofs.Common.{ℕ, ◌+◌, length}
-use Rattle.simple_fluent.specs.Rows.{pairs}
-use Rattle.simple_fluent.specs.Sweep.{has_it}
+use Rattle.std.proofs.Common.{◌+◌, ◌-◌}
 use Rattle.simple_fluent.proofs.Sweeping.{IsSweeping}
 use Rattle.simple_fluent.proofs.sweep.sweep.Given as goal
 
 abbrev pub invariant-sweep : goal.invariant-sweep
 invariant-sweep l =
-    (top : ℕ) × IsSweeping (has_it l.fn.inits l.fn.terms l.w) l.fn.inits l.fn.terms l.w l.q l.inits_left l.terms_left (pairs l.out.items) l.begun top
+    IsSweeping l.fn.opening l.inits l.terms l.w l.q l.firsts_left l.terms_left l.rows.items l.current l.since (l.seen + 1)
 
 abbrev pub decreases-sweep : goal.decreases-sweep
-decreases-sweep l = length l.inits_left + length l.terms_left
+decreases-sweep l = l.q - l.seen

@@ -1,0 +1,17 @@
+pub mod Alike
+pub mod Expressions
+pub mod ExprRows
+pub mod Gathering
+pub mod Idle
+pub mod InWindow
+pub mod Joined
+pub mod KindRows
+pub mod LayerParts
+pub mod LayerSizes
+pub mod LookUp
+pub mod Occurs
+pub mod Putting
+pub mod Stepping
+pub mod UnitCounts
+pub mod UnitRows
+pub mod WorkedUnits

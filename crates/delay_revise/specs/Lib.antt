@@ -1,0 +1,4 @@
+pub mod Published
+pub mod Worked
+pub mod Working
+pub mod Examples

@@ -1,0 +1,108 @@
+// The rows of one unit, from the rows of the units that its rules name.
+ghost use Rattle.std.specs.Prelude.{◌≡◌, ◌≤◌, ◌<◌, ◌+◌, ◌-◌, ◌^◌, nat_lt, ℕ, true, map, length, IfOk, OnOk, OnErr};
+ghost use Rattle.std.specs.List.{list_all, AllByRecursion};
+ghost use Rattle.ground_types.specs.Meaning.{units_of_expr};
+ghost use Rattle.ground_types.specs.Publication.{initial_of};
+ghost use Rattle.ground_types.specs.Rows.{row};
+ghost use Rattle.ground_types.specs.Sound.{unit_values, kind_fits};
+ghost use Rattle.ground_types.specs.Touched.{rules_of};
+ghost use Rattle.ground_types.specs.Truth.{expr_holds};
+ghost use Rattle.layer_cache.specs.Told.{told};
+ghost use Rattle.point_rule.specs.Known.{known, HasRows};
+ghost use Rattle.simple_fluent.specs.Rows.{pairs};
+ghost use Rattle.static_fluent.specs.Constructs.{has_members, has_rows};
+ghost use Rattle.delay_revise.specs.Published.{published};
+ghost use Rattle.delay_revise.specs.Working.{rows_over, evaluations_over, IsInWindow};
+
+use crate::gather::{points_by_value, points_of_rules};
+use event_store::EventStore;
+use ground_types::{Expr, Point, Program, Unit, UnitKind};
+use layer_cache::{Cache, value_count};
+use rt_base::{List, OutOfMemory, Steps};
+use simple_fluent::spans_of;
+use span_algebra::{Spans, UnitRows};
+use static_fluent::spans_of_expr;
+use std::alloc::Global;
+use std::sync::ledger::Ledger;
+
+// The row of each expression, in their order.
+fn rows_of_exprs(alloc: Global, exprs: &[Expr], cache: &Cache) -> Result<Vec<Spans>, OutOfMemory>
+    requires rows { list_all (has_rows (length cache.now.rows)) exprs.now ≡ true }
+    requires members { list_all has_members exprs.now ≡ true }
+    ensures { IfOk result (λ rows. (w q : ℕ) → w ≤ q → IsInWindow w q cache.now.rows →
+        map pairs rows.items ≡ map (λ expr. row (expr_holds (told cache.now.rows) expr) w q) exprs.now) }
+{
+    let mut rows = Vec::with_capacity(alloc, exprs.len())?;
+    for expr in exprs {
+        let row = spans_of_expr(alloc, expr, cache)?;
+        rows.push(row)?;
+    }
+    Ok(rows)
+}
+
+/// The rows of a unit over the window of query 0.
+pub(crate) fn rows_of_unit<L: Ledger>(
+    alloc: Global,
+    program: &Program,
+    unit: &Unit,
+    cache: &Cache,
+    store: &EventStore,
+    w: Point,
+    q: Point,
+    steps: &mut Steps<L>,
+) -> Result<UnitRows, OutOfMemory>
+    requires fits { kind_fits program.now (unit_values program.now unit.now) unit.now.kind ≡ true }
+    requires size { length cache.now.rows ≡ length program.now.units }
+    requires inside { IsInWindow w q cache.now.rows }
+    requires rows { AllByRecursion (HasRows cache.now.rows) (rules_of unit.now.kind) }
+    requires window { w < q }
+    requires end { q < 2 ^ 64 - 1 }
+    ensures rows { IfOk result (λ rows. published rows
+        ≡ rows_over (known cache.now.rows store.now) (initial_of unit.now.kind) (unit_values program.now unit.now) unit.now.kind w q) }
+    ensures steps { OnOk result (steps.new ≡ record {
+      count = steps.old.count + evaluations_over (known cache.now.rows store.now) unit.now.kind w q;
+      out = steps.old.out;
+    }) }
+    ensures most { OnErr result (steps.new.count ≤ steps.old.count + evaluations_over (known cache.now.rows store.now) unit.now.kind w q) }
+    ensures parts { steps.new.out ≡ steps.old.out }
+{
+    match &unit.kind {
+        UnitKind::Simple {
+            initially,
+            initiate,
+            terminate,
+        } => {
+            let count = value_count(program, unit);
+            let inits = points_by_value(
+                alloc,
+                initiate.as_slice(),
+                count,
+                cache,
+                store,
+                w,
+                q,
+                steps,
+            )?;
+            let terms = points_by_value(
+                alloc,
+                terminate.as_slice(),
+                count,
+                cache,
+                store,
+                w,
+                q,
+                steps,
+            )?;
+            let rows = spans_of(alloc, *initially, &inits, &terms, w, q)?;
+            Ok(UnitRows::Fluent(List::of(rows)))
+        }
+        UnitKind::Derived(rules) => {
+            let points = points_of_rules(alloc, rules.as_slice(), cache, store, w, q, steps)?;
+            Ok(UnitRows::Event(points))
+        }
+        UnitKind::Static(exprs) => {
+            let rows = rows_of_exprs(alloc, exprs.as_slice(), cache)?;
+            Ok(UnitRows::Fluent(List::of(rows)))
+        }
+    }
+}
