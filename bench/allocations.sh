@@ -1,5 +1,5 @@
 #!/usr/bin/env bash
-# Lets each allocation of the built program fail in turn on the bundled sample, for each command: it has to end with status
+# Lets each allocation of the built program fail in turn on the bundled sample and on one description more, for each command: it has to end with status
 # 8 and to have written nothing, until there are no more allocations and it ends with status 0.
 # Usage: bench/allocations.sh [PROGRAM]; build it first (`rt run` in crates/rtec_main). It needs gcc.
 set -eu
@@ -46,5 +46,33 @@ each_fails() { # the words of a command
   echo "$1: more than 10000 allocations"
   exit 1
 }
+# values, conditions, a derived event, an opening and a statically determined fluent
+cat > "$folder/rooms.rtec" <<'RTEC'
+window(10).
+step(5).
+domain room [hall, attic].
+input up(room).
+input down(room).
+input blows(room).
+simple lamp(room) [on, dim].
+simple blown(room) [true].
+static dark(room) [true].
+derived switched(room).
+initially(lamp(hall)=on).
+initiatedAt(lamp(R)=on) :- happensAt(up(R)), not holdsAt(blown(R)=true).
+terminatedAt(lamp(R)=on) :- happensAt(down(R)).
+initiatedAt(blown(R)=true) :- happensAt(blows(R)).
+happensAt(switched(R)) :- happensAt(start(lamp(R)=on)).
+holdsFor(dark(R)=true) :- relative_complement_all(blown(R)=true, [lamp(R)=on, lamp(R)=dim]).
+RTEC
+cat > "$folder/rooms.csv" <<'CSV'
+add,1,2,up,attic
+add,1,4,down,hall
+add,1,6,blows,hall
+add,1,7,up,hall
+seal
+CSV
 each_fails recognise "$data/lamp.rtec" "$data/first_run.csv"
 each_fails ground "$data/lamp.rtec"
+each_fails recognise "$folder/rooms.rtec" "$folder/rooms.csv"
+each_fails ground "$folder/rooms.rtec"

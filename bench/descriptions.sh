@@ -29,13 +29,13 @@ def filled(front, line, count=None, end=""):
 lamp = head + "input a.\nsimple b [c].\n"
 random.seed(7)
 cases = [
-    ("60,000 statements", 10, filled(lamp, "initially(b=c).\n", 60000)),
+    ("60,000 statements", 0, filled(lamp, "initially(b=c).\n", 60000)),
     ("rules of one fluent", 0, filled(lamp, "initiatedAt(b=c) :- happensAt(a).\n")),
-    ("rules with variables", 10, filled(head + "domain v [x, y].\ninput a(v).\nsimple b(v) [c].\n", "initiatedAt(b(X)=c) :- happensAt(a(X)), X \\= Y, happensAt(a(Y)).\n")),
-    ("expressions of 64 leaves", 10, filled(head + "static s [c].\nsimple b [c].\n", "holdsFor(s=c) :- union_all([" + ",".join(["b=c"] * 64) + "]).\n")),
+    ("rules with variables", 0, filled(head + "domain v [x, y].\ninput a(v).\nsimple b(v) [c].\n", "initiatedAt(b(X)=c) :- happensAt(a(X)), X \\= Y, happensAt(a(Y)).\n")),
+    ("expressions of 64 leaves", 0, filled(head + "static s [c].\nsimple b [c].\n", "holdsFor(s=c) :- union_all([" + ",".join(["b=c"] * 64) + "]).\n")),
     ("many names", 0, filled(lamp, lambda i: f"input n{i}.\n")),
     ("many fluents and rules", 0, filled(lamp, lambda i: f"simple f{i} [c]. initiatedAt(f{i}=c) :- happensAt(a).\n")),
-    ("many entities", 10, filled(head + "static s [c].\n", lambda i: f"domain d{i} [" + ", ".join(f"e{j}" for j in range(2000)) + "].\n", 64)),
+    ("many entities", 0, filled(head + "static s [c].\n", lambda i: f"domain d{i} [" + ", ".join(f"e{j}" for j in range(2000)) + "].\n", 64)),
     ("an argument list", 3, filled(head + "domain v [].\ninput a(", "v,", end="v).")),
     ("one comment", 3, filled("%", "x")),
     ("one word", 3, filled("", "x")),
@@ -57,6 +57,6 @@ for name, wanted, text in cases:
     took = time.monotonic() - start
     said = ended.stderr.decode().strip() or ended.stdout.decode().strip().splitlines()[-1]
     print(f"{name:32s} {len(data):8d} bytes {took * 1000:6.0f} ms  status {ended.returncode:2d}  {said}")
-    failed = failed or ended.returncode != wanted or (wanted == 10 and said != "rtec: input 0 is not built")
+    failed = failed or ended.returncode != wanted
 sys.exit(1 if failed else 0)
 PYTHON

@@ -77,7 +77,7 @@ cases = [
     ("2,097,152 records", 10, b"seal\n" * 2097152),
     ("2,097,153 records", 5, b"seal\n" * 2097153),
     ("2,097,153 records, the last bad", 5, b"seal\n" * 2097152 + b"bad\n"),
-    ("a record of a million fields", 10, b"add,1,3,up" + b",x" * 1000000 + b"\nseal\n"),
+    ("a record of a million fields", 0, b"add,1,3,up" + b",x" * 1000000 + b"\nseal\n"),
     ("a field of 64 MB", 4, b"x" * 64000000),
     ("a quote that never closes", 10, b"add,1,3,\"up\nseal\n" + b"add,1,3,up\n" * 1000000),
     ("NUL bytes", 4, b"\0" * 1000000),
