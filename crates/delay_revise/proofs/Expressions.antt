@@ -1,5 +1,6 @@
 -- Expressions over the rows of units that are worked are true where they are in query 0.
-use Rattle.std.proofs.Common.{◌≡◌, ℕ, zero, suc, ◌+◌, ◌<◌, ◌≤◌, Bool, true, not, ◌&&◌, ◌||◌, ◌==◌, List, [], ◌∷◌, ◌++◌, flat_map, slice_get, refl, sym, ◌∙◌, ap₂}
+use Rattle.std.proofs.Common.{◌≡◌, ℕ, zero, suc, ◌+◌, ◌<◌, ◌≤◌, Bool, true, not, ◌&&◌, ◌||◌, ◌==◌}
+use Rattle.std.proofs.Common.{List, [], ◌∷◌, ◌++◌, flat_map, slice_get, refl, sym, ◌∙◌, ap₂}
 use Rattle.std.specs.List.{list_all}
 use Rattle.std.proofs.lemmas.List.Folds.{list_all-append}
 use Rattle.ground_types.specs.History.{before_seal}
@@ -12,7 +13,8 @@ use Rattle.ground_types.specs.Truth.{expr_holds, some_holds, each_holds}
 use Rattle.ground_types.specs.Windows.{left, right}
 use Rattle.ground_types.proofs.Members.{and_left, and_right}
 use Rattle.ground_types.specs.declared.entries.Entry.{Entry}
-use Rattle.ground_types.specs.declared.program.Expr.{Expr, Row, Union', Intersect', Complement', Row_of-Expr, end_of-Expr, more_of-Expr}
+use Rattle.ground_types.specs.declared.program.Expr.{Expr, Row, Union', Intersect', Complement'}
+use Rattle.ground_types.specs.declared.program.Expr.{Row_of-Expr, end_of-Expr, more_of-Expr}
 use Rattle.ground_types.specs.declared.program.Program.{Program}
 use Rattle.event_store.specs.Standing.{Events}
 use Rattle.layer_cache.specs.Told.{told}
@@ -25,38 +27,53 @@ use Rattle.delay_revise.proofs.LookUp.{value_found}
 -- input events do not matter to expressions
 module _ (rows : List UnitRows) (store : Events) (t : ℕ) where
   mutual
-    pub expr_told : (expr : Expr) → expr_holds (told rows) expr t ≡ expr_holds (known rows store) expr t
+    pub expr_told : (expr : Expr) → expr_holds (told rows) expr t ≡ expr_holds (known rows store)
+        expr t
     expr_told (Row unit v) = refl
     expr_told (Union' shape members) = some_told members
     expr_told (Intersect' shape members) = each_told members
-    expr_told (Complement' p first shape others) = ap₂ (λ (a b : Bool). a && not b) (expr_told first) (some_told others)
+    expr_told (Complement' p first shape others) = ap₂ (λ (a b : Bool). a && not b)
+        (expr_told first) (some_told others)
 
-    some_told : {m : _} (members : Row_of-Expr m) → some_holds (told rows) members t ≡ some_holds (known rows store) members t
+    some_told : {m : _} (members : Row_of-Expr m) → some_holds (told rows) members t
+        ≡ some_holds (known rows store) members t
     some_told end_of-Expr = refl
-    some_told (more_of-Expr member rest) = ap₂ (λ (a b : Bool). a || b) (expr_told member) (some_told rest)
+    some_told (more_of-Expr member rest) = ap₂ (λ (a b : Bool). a || b) (expr_told member)
+        (some_told rest)
 
-    each_told : {m : _} (members : Row_of-Expr m) → each_holds (told rows) members t ≡ each_holds (known rows store) members t
+    each_told : {m : _} (members : Row_of-Expr m) → each_holds (told rows) members t
+        ≡ each_holds (known rows store) members t
     each_told end_of-Expr = refl
-    each_told (more_of-Expr member rest) = ap₂ (λ (a b : Bool). a && b) (expr_told member) (each_told rest)
+    each_told (more_of-Expr member rest) = ap₂ (λ (a b : Bool). a && b) (expr_told member)
+        (each_told rest)
 
 -- what passes for two lists together passes for each
-both_left : (test : ℕ → Bool) (xs ys : List ℕ) → list_all test (xs ++ ys) ≡ true → list_all test xs ≡ true
-both_left test xs ys all = and_left (list_all test xs) (list_all test ys) (sym (list_all-append test xs ys) ∙ all)
+both_left : (test : ℕ → Bool) (xs ys : List ℕ) → list_all test (xs ++ ys) ≡ true → list_all test xs
+    ≡ true
+both_left test xs ys all = and_left (list_all test xs) (list_all test ys)
+    (sym (list_all-append test xs ys) ∙ all)
 
-both_right : (test : ℕ → Bool) (xs ys : List ℕ) → list_all test (xs ++ ys) ≡ true → list_all test ys ≡ true
-both_right test xs ys all = and_right (list_all test xs) (list_all test ys) (sym (list_all-append test xs ys) ∙ all)
+both_right : (test : ℕ → Bool) (xs ys : List ℕ) → list_all test (xs ++ ys) ≡ true
+    → list_all test ys ≡ true
+both_right test xs ys all = and_right (list_all test xs) (list_all test ys)
+    (sym (list_all-append test xs ys) ∙ all)
 
-module _ (program : Program) (history : List Entry) (store : Events) (below : List ℕ) (rows : List UnitRows)
-    (sound : IsSound program) (stand : Stand program store (before_seal history 0)) (worked : IsWorked program store below rows)
+module _ (program : Program) (history : List Entry) (store : Events) (below : List ℕ)
+    (rows : List UnitRows)
+    (sound : IsSound program) (stand : Stand program store (before_seal history 0))
+    (worked : IsWorked program store below rows)
     (t : ℕ) (above : left program.plan 0 < t) (within : t ≤ right program.plan 0 + 1) where
   mutual
-    expr_found : (expr : Expr) → expr_fits program expr ≡ true → list_all (contains below) (units_of_expr expr) ≡ true →
+    expr_found : (expr : Expr) → expr_fits program expr ≡ true
+        → list_all (contains below) (units_of_expr expr) ≡ true →
         expr_holds (known rows store) expr t ≡ expr_holds (query_table program history 0) expr t
     expr_found (Row unit v) fits done =
-        value_found program history store below rows sound stand worked unit v t fits (and_left (contains below unit) true done) above within
+        value_found program history store below rows sound stand worked unit v t fits
+        (and_left (contains below unit) true done) above within
     expr_found (Union' shape members) fits done = some_found members fits done
     expr_found (Intersect' shape members) fits done =
-        each_found members (and_right (not (member_count members == 0)) (members_fit program members) fits) done
+        each_found members (and_right (not (member_count members == 0))
+        (members_fit program members) fits) done
     expr_found (Complement' p first shape others) fits done =
         ap₂ (λ (a b : Bool). a && not b)
         (expr_found first (and_left (expr_fits program first) (members_fit program others) fits)
@@ -64,8 +81,10 @@ module _ (program : Program) (history : List Entry) (store : Events) (below : Li
         (some_found others (and_right (expr_fits program first) (members_fit program others) fits)
         (both_right (contains below) (units_of_expr first) (units_of_members others) done))
 
-    some_found : {m : _} (members : Row_of-Expr m) → members_fit program members ≡ true → list_all (contains below) (units_of_members members) ≡ true →
-        some_holds (known rows store) members t ≡ some_holds (query_table program history 0) members t
+    some_found : {m : _} (members : Row_of-Expr m) → members_fit program members ≡ true
+        → list_all (contains below) (units_of_members members) ≡ true →
+        some_holds (known rows store) members t ≡ some_holds (query_table program history 0)
+        members t
     some_found end_of-Expr fits done = refl
     some_found (more_of-Expr member rest) fits done =
         ap₂ (λ (a b : Bool). a || b)
@@ -74,8 +93,10 @@ module _ (program : Program) (history : List Entry) (store : Events) (below : Li
         (some_found rest (and_right (expr_fits program member) (members_fit program rest) fits)
         (both_right (contains below) (units_of_expr member) (units_of_members rest) done))
 
-    each_found : {m : _} (members : Row_of-Expr m) → members_fit program members ≡ true → list_all (contains below) (units_of_members members) ≡ true →
-        each_holds (known rows store) members t ≡ each_holds (query_table program history 0) members t
+    each_found : {m : _} (members : Row_of-Expr m) → members_fit program members ≡ true
+        → list_all (contains below) (units_of_members members) ≡ true →
+        each_holds (known rows store) members t ≡ each_holds (query_table program history 0)
+        members t
     each_found end_of-Expr fits done = refl
     each_found (more_of-Expr member rest) fits done =
         ap₂ (λ (a b : Bool). a && b)
@@ -84,13 +105,17 @@ module _ (program : Program) (history : List Entry) (store : Events) (below : Li
         (each_found rest (and_right (expr_fits program member) (members_fit program rest) fits)
         (both_right (contains below) (units_of_expr member) (units_of_members rest) done))
 
-  -- the expression of a value, if there is one, is true at a value point where it is so over the rows
-  pub option_found : (exprs : List Expr) (v : ℕ) → list_all (expr_fits program) exprs ≡ true → list_all (contains below) (flat_map units_of_expr exprs) ≡ true →
-      option_holds (known rows store) (slice_get exprs v) t ≡ option_holds (query_table program history 0) (slice_get exprs v) t
+  -- the expression of a value, if there is one, is true at a value point where it is so over the
+  -- rows
+  pub option_found : (exprs : List Expr) (v : ℕ) → list_all (expr_fits program) exprs ≡ true
+      → list_all (contains below) (flat_map units_of_expr exprs) ≡ true →
+      option_holds (known rows store) (slice_get exprs v) t
+      ≡ option_holds (query_table program history 0) (slice_get exprs v) t
   option_found [] v fit done = refl
   option_found (expr ∷ rest) zero fit done =
       expr_found expr (and_left (expr_fits program expr) (list_all (expr_fits program) rest) fit)
       (both_left (contains below) (units_of_expr expr) (flat_map units_of_expr rest) done)
   option_found (expr ∷ rest) (suc v) fit done =
-      option_found rest v (and_right (expr_fits program expr) (list_all (expr_fits program) rest) fit)
+      option_found rest v (and_right (expr_fits program expr) (list_all (expr_fits program) rest)
+      fit)
       (both_right (contains below) (units_of_expr expr) (flat_map units_of_expr rest) done)

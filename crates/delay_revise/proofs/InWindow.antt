@@ -1,5 +1,7 @@
 -- Rows that a unit comes to lie in the window.
-use Rattle.std.proofs.Common.{◌≡◌, ℕ, zero, suc, ◌+◌, ◌-◌, ◌<◌, ◌≤◌, Bool, true, false, ◌&&◌, leb, ltb, eqb, List, [], map, slice_get, Option, Some, None, refl, sym, ◌∙◌, ap, arith}
+use Rattle.std.proofs.Common.{◌≡◌, ℕ, zero, suc, ◌+◌, ◌-◌, ◌<◌, ◌≤◌, Bool, true, false, ◌&&◌, leb}
+use Rattle.std.proofs.Common.{ltb, eqb, List, [], map, slice_get, Option, Some, None, refl, sym}
+use Rattle.std.proofs.Common.{◌∙◌, ap, arith}
 use Rattle.std.specs.Prelude.{option_map, replicate}
 use Rattle.std.specs.List.{range_with_len}
 use Rattle.std.proofs.lemmas.Bool.Decides.{nat_tests}
@@ -28,7 +30,8 @@ use Rattle.delay_revise.specs.Worked.{IsPut}
 use Rattle.delay_revise.specs.Working.{rows_over, IsInWindow}
 use Rattle.delay_revise.proofs.LookUp.{option_covers, value_covers_pairs}
 
-test_inside : (w q t : ℕ) (b : Bool) → (ltb w t && leb t (w + (q + 1 - w)) && b) ≡ true → (w < t) × (t ≤ q + 1)
+test_inside : (w q t : ℕ) (b : Bool) → (ltb w t && leb t (w + (q + 1 - w)) && b) ≡ true → (w < t)
+    × (t ≤ q + 1)
 test_inside w q t true is =
     let low : w < t = grind (arith, nat_tests) in
     let high : t ≤ w + (q + 1 - w) = grind (arith, nat_tests) in
@@ -36,15 +39,19 @@ test_inside w q t true is =
 test_inside w q t false is = absurd (grind (arith, nat_tests))
 
 -- the row of a value, if there is one, lies in the window
-row_inside : (test : ℕ → ℕ → Bool) (w q t : ℕ) (v : Option ℕ) → option_covers (option_map (λ v. row (test v) w q) v) t ≡ true → (w < t) × (t ≤ q + 1)
+row_inside : (test : ℕ → ℕ → Bool) (w q t : ℕ) (v : Option ℕ)
+    → option_covers (option_map (λ v. row (test v) w q) v) t ≡ true → (w < t) × (t ≤ q + 1)
 row_inside test w q t None is = cc
-row_inside test w q t (Some v) is = test_inside w q t (test v t) (sym ((runs_are (test v) w (q + 1 - w)).each t) ∙ is)
+row_inside test w q t (Some v) is = test_inside w q t (test v t)
+    (sym ((runs_are (test v) w (q + 1 - w)).each t) ∙ is)
 
 -- so do the rows of all values
-rows_inside : (test : ℕ → ℕ → Bool) (count w q v t : ℕ) (rows : List (List Span)) → map pairs rows ≡ map (λ v. row (test v) w q) (range_with_len 0 count) →
+rows_inside : (test : ℕ → ℕ → Bool) (count w q v t : ℕ) (rows : List (List Span)) → map pairs rows
+    ≡ map (λ v. row (test v) w q) (range_with_len 0 count) →
     value_covers (slice_get rows v) t ≡ true → (w < t) × (t ≤ q + 1)
 rows_inside test count w q v t rows same is =
-    let there : option_covers (option_map (λ v. row (test v) w q) (slice_get (range_with_len 0 count) v)) t ≡ value_covers (slice_get rows v) t =
+    let there : option_covers (option_map (λ v. row (test v) w q)
+    (slice_get (range_with_len 0 count) v)) t ≡ value_covers (slice_get rows v) t =
     sym (value_covers_pairs (slice_get rows v) t
     ∙ ap (λ (o : Option (List (ℕ × ℕ))). option_covers o t)
     (sym (slice_get-map pairs rows v) ∙ ap (λ (l : List (List (ℕ × ℕ))). slice_get l v) same
@@ -52,12 +59,16 @@ rows_inside test count w q v t rows same is =
     row_inside test w q t (slice_get (range_with_len 0 count) v) (there ∙ is)
 
 -- what a unit comes to over a table lies in the window
-over_inside : (table : Table) (opening : Option ℕ) (count : ℕ) (kind : UnitKind) (w q v t : ℕ) (rows : Option UnitRows) →
-    option_map published rows ≡ Some (rows_over table opening count kind w q) → fluent_has rows v t ≡ true → (w < t) × (t ≤ q + 1)
+over_inside : (table : Table) (opening : Option ℕ) (count : ℕ) (kind : UnitKind) (w q v t : ℕ)
+    (rows : Option UnitRows) →
+    option_map published rows ≡ Some (rows_over table opening count kind w q) → fluent_has rows v t
+    ≡ true → (w < t) × (t ≤ q + 1)
 over_inside table opening count kind w q v t None same is = cc
 over_inside table opening count kind w q v t (Some (Event points)) same is = cc
-over_inside table opening count (Simple initially initiate terminate) w q v t (Some (Fluent rows)) same is =
-    let test : ℕ → ℕ → Bool = λ v t. is_value (value_of_unit table opening (Simple initially initiate terminate) w t) v in
+over_inside table opening count (Simple initially initiate terminate) w q v t (Some (Fluent rows))
+    same is =
+    let test : ℕ → ℕ → Bool = λ v t. is_value (value_of_unit table opening
+    (Simple initially initiate terminate) w t) v in
     let all : map pairs rows ≡ map (λ v. row (test v) w q) (range_with_len 0 count) = cc in
     rows_inside test count w q v t rows all is
 over_inside table opening count (Static exprs) w q v t (Some (Fluent rows)) same is =
@@ -70,14 +81,18 @@ over_inside table opening count (Derived rules) w q v t (Some (Fluent rows)) sam
 module _ (program : Program) (store : Events) (number : ℕ) (old new : List UnitRows) (unit : Unit)
     (at : slice_get program.units number ≡ Some unit) (put : IsPut program store number old new)
     (inside : IsInWindow (left program.plan 0) (right program.plan 0) old) where
-  put_by : (other v t : ℕ) (b : Bool) → eqb number other ≡ b → fluent_has (slice_get new other) v t ≡ true →
+  put_by : (other v t : ℕ) (b : Bool) → eqb number other ≡ b → fluent_has (slice_get new other) v t
+      ≡ true →
       (left program.plan 0 < t) × (t ≤ right program.plan 0 + 1)
   put_by other v t true same is =
       let here : number ≡ other = grind (arith, nat_tests) in
-      over_inside (known old store) (initial_of unit.kind) (unit_values program unit) unit.kind (left program.plan 0) (right program.plan 0) v t
-      (slice_get new number) (put.here unit at) (ap (λ (n : ℕ). fluent_has (slice_get new n) v t) here ∙ is)
+      over_inside (known old store) (initial_of unit.kind) (unit_values program unit) unit.kind
+      (left program.plan 0) (right program.plan 0) v t
+      (slice_get new number) (put.here unit at) (ap (λ (n : ℕ). fluent_has (slice_get new n) v t)
+      here ∙ is)
   put_by other v t false differ is =
-      inside other v t (ap (λ (rows : Option UnitRows). fluent_has rows v t) (sym (put.others other differ)) ∙ is)
+      inside other v t (ap (λ (rows : Option UnitRows). fluent_has rows v t)
+      (sym (put.others other differ)) ∙ is)
 
   pub put_inside : IsInWindow (left program.plan 0) (right program.plan 0) new
   put_inside = λ other v t is. put_by other v t (eqb number other) refl is
@@ -94,7 +109,8 @@ empty_has (Simple initially initiate terminate) count v t = no_point count v t
 empty_has (Static exprs) count v t = no_point count v t
 empty_has (Derived rules) count v t = refl
 
-empty_at : (program : Program) (unit : Option Unit) (v t : ℕ) → fluent_has (option_map (empty_rows program) unit) v t ≡ false
+empty_at : (program : Program) (unit : Option Unit) (v t : ℕ)
+    → fluent_has (option_map (empty_rows program) unit) v t ≡ false
 empty_at program None v t = refl
 empty_at program (Some unit) v t = empty_has unit.kind (unit_values program unit) v t
 
@@ -102,5 +118,6 @@ pub empty_inside : (program : Program) (w q : ℕ) → IsInWindow w q (all_empty
 empty_inside program w q = λ unit v t is.
     let both : false ≡ true =
     sym (empty_at program (slice_get program.units unit) v t)
-    ∙ ap (λ (rows : Option UnitRows). fluent_has rows v t) (sym (slice_get-map (empty_rows program) program.units unit)) ∙ is in
+    ∙ ap (λ (rows : Option UnitRows). fluent_has rows v t)
+    (sym (slice_get-map (empty_rows program) program.units unit)) ∙ is in
     cc

@@ -1,5 +1,7 @@
 -- What a unit comes to over the rows of the units that it names is what is published of it.
-use Rattle.std.proofs.Common.{◌≡◌, ℕ, ◌+◌, ◌<◌, ◌≤◌, Bool, true, false, cond, ◌&&◌, ◌||◌, List, [], ◌∷◌, ◌++◌, map, filter, flat_map, slice_get, Option, Some, None, length, ◌==◌, refl, sym, ◌∙◌, ap, ap₂}
+use Rattle.std.proofs.Common.{◌≡◌, ℕ, ◌+◌, ◌<◌, ◌≤◌, Bool, true, false, cond, ◌&&◌, ◌||◌, List, []}
+use Rattle.std.proofs.Common.{◌∷◌, ◌++◌, map, filter, flat_map, slice_get, Option, Some, None}
+use Rattle.std.proofs.Common.{length, ◌==◌, refl, sym, ◌∙◌, ap, ap₂}
 use Rattle.std.specs.Prelude.{option_and_then, option_map}
 use Rattle.std.specs.List.{list_all, list_any, range_with_len}
 use Rattle.std.proofs.Math.Bool.{or-false}
@@ -9,9 +11,12 @@ use Rattle.std.proofs.lemmas.Option.{slice_get-map}
 use Rattle.ground_types.specs.History.{before_seal}
 use Rattle.ground_types.specs.Meaning.{units_of_rule, units_of_expr, units_of_kind}
 use Rattle.ground_types.specs.Members.{contains}
-use Rattle.ground_types.specs.Publication.{fluent_rows, event_row, rows_of_kind, initial_of, opening_of, query_table}
-use Rattle.ground_types.specs.Recognition.{kind_of, kind_or_idle, values_of, value_of_unit, static_of_unit, derived_of_unit, option_holds, listed}
-use Rattle.ground_types.specs.Sound.{IsSound, unit_values, initial_fits, rule_fits, expr_fits, is_union, kind_fits}
+use Rattle.ground_types.specs.Publication.{fluent_rows, event_row, rows_of_kind, initial_of}
+use Rattle.ground_types.specs.Publication.{opening_of, query_table}
+use Rattle.ground_types.specs.Recognition.{kind_of, kind_or_idle, values_of, value_of_unit}
+use Rattle.ground_types.specs.Recognition.{static_of_unit, derived_of_unit, option_holds, listed}
+use Rattle.ground_types.specs.Sound.{IsSound, unit_values, initial_fits, rule_fits, expr_fits}
+use Rattle.ground_types.specs.Sound.{is_union, kind_fits}
 use Rattle.ground_types.specs.Truth.{Table, is_value, holds, body_holds}
 use Rattle.ground_types.specs.Windows.{left, right}
 use Rattle.ground_types.proofs.Members.{and_left, and_right}
@@ -33,125 +38,178 @@ use Rattle.delay_revise.proofs.Expressions.{option_found}
 use Rattle.delay_revise.proofs.LookUp.{table_means, body_found}
 
 -- what passes for two lists together passes for each
-pub all_left : {X : Type 0} (test : X → Bool) (xs ys : List X) → list_all test (xs ++ ys) ≡ true → list_all test xs ≡ true
-all_left test xs ys all = and_left (list_all test xs) (list_all test ys) (sym (list_all-append test xs ys) ∙ all)
+pub all_left : {X : Type 0} (test : X → Bool) (xs ys : List X) → list_all test (xs ++ ys) ≡ true
+    → list_all test xs ≡ true
+all_left test xs ys all = and_left (list_all test xs) (list_all test ys)
+    (sym (list_all-append test xs ys) ∙ all)
 
-pub all_right : {X : Type 0} (test : X → Bool) (xs ys : List X) → list_all test (xs ++ ys) ≡ true → list_all test ys ≡ true
-all_right test xs ys all = and_right (list_all test xs) (list_all test ys) (sym (list_all-append test xs ys) ∙ all)
+pub all_right : {X : Type 0} (test : X → Bool) (xs ys : List X) → list_all test (xs ++ ys) ≡ true
+    → list_all test ys ≡ true
+all_right test xs ys all = and_right (list_all test xs) (list_all test ys)
+    (sym (list_all-append test xs ys) ∙ all)
 
 -- what fits of a simple fluent
 pub record DoesFit (program : Program) (count : ℕ) (initiate terminate : List Rule) : Type 0 where
   pub inits : list_all (rule_fits program count) initiate ≡ true
   pub terms : list_all (rule_fits program count) terminate ≡ true
 
-pub fits_simple : (program : Program) (count : ℕ) (initially : Option ℕ) (initiate terminate : List Rule) →
-    kind_fits program count (Simple initially initiate terminate) ≡ true → DoesFit program count initiate terminate
+pub fits_simple : (program : Program) (count : ℕ) (initially : Option ℕ) (initiate terminate : List
+    Rule) →
+    kind_fits program count (Simple initially initiate terminate) ≡ true
+    → DoesFit program count initiate terminate
 fits_simple program count initially initiate terminate fits =
     let first : Bool = initial_fits count initially in
     let inits : Bool = list_all (rule_fits program count) initiate in
     let terms : Bool = list_all (rule_fits program count) terminate in
-    record { inits = and_right first inits (and_left (first && inits) terms fits); terms = and_right (first && inits) terms fits }
+    record {
+      inits = and_right first inits (and_left (first && inits) terms fits);
+      terms = and_right (first && inits) terms fits;
+    }
 
-opening_there : (program : Program) (history : List Entry) (number : ℕ) (unit : Unit) → slice_get program.units number ≡ Some unit →
+opening_there : (program : Program) (history : List Entry) (number : ℕ) (unit : Unit)
+    → slice_get program.units number ≡ Some unit →
     listed (opening_of program history 0) number ≡ initial_of unit.kind
 opening_there program history number unit at =
-    ap (option_and_then (λ v. v)) (slice_get-map (λ (u : Unit). initial_of u.kind) program.units number
+    ap (option_and_then (λ v. v)) (slice_get-map (λ (u : Unit). initial_of u.kind) program.units
+    number
     ∙ ap (option_map (λ (u : Unit). initial_of u.kind)) at)
 
-module _ (program : Program) (history : List Entry) (store : Events) (below : List ℕ) (rows : List UnitRows)
-    (sound : IsSound program) (stand : Stand program store (before_seal history 0)) (worked : IsWorked program store below rows) where
-  first_found : (count : ℕ) (rule : Rule) (rest : List Rule) (t : ℕ) → list_all (rule_fits program count) (rule ∷ rest) ≡ true →
-      list_all (contains below) (flat_map units_of_rule (rule ∷ rest)) ≡ true → left program.plan 0 < t → t ≤ right program.plan 0 →
+module _ (program : Program) (history : List Entry) (store : Events) (below : List ℕ)
+    (rows : List UnitRows)
+    (sound : IsSound program) (stand : Stand program store (before_seal history 0))
+    (worked : IsWorked program store below rows) where
+  first_found : (count : ℕ) (rule : Rule) (rest : List Rule) (t : ℕ)
+      → list_all (rule_fits program count) (rule ∷ rest) ≡ true →
+      list_all (contains below) (flat_map units_of_rule (rule ∷ rest)) ≡ true
+      → left program.plan 0 < t → t ≤ right program.plan 0 →
       body_holds (known rows store) rule t ≡ body_holds (query_table program history 0) rule t
   first_found count rule rest t fit done above within =
       body_found program history store below rows sound stand worked count rule t
       (and_left (rule_fits program count rule) (list_all (rule_fits program count) rest) fit)
-      (all_left (contains below) (units_of_rule rule) (flat_map units_of_rule rest) done) above within
+      (all_left (contains below) (units_of_rule rule) (flat_map units_of_rule rest) done) above
+      within
 
-  bodies_found : (count : ℕ) (rules : List Rule) (t : ℕ) → list_all (rule_fits program count) rules ≡ true →
-      list_all (contains below) (flat_map units_of_rule rules) ≡ true → left program.plan 0 < t → t ≤ right program.plan 0 →
-      filter (λ rule. body_holds (known rows store) rule t) rules ≡ filter (λ rule. body_holds (query_table program history 0) rule t) rules
+  bodies_found : (count : ℕ) (rules : List Rule) (t : ℕ) → list_all (rule_fits program count) rules
+      ≡ true →
+      list_all (contains below) (flat_map units_of_rule rules) ≡ true → left program.plan 0 < t
+      → t ≤ right program.plan 0 →
+      filter (λ rule. body_holds (known rows store) rule t) rules
+      ≡ filter (λ rule. body_holds (query_table program history 0) rule t) rules
   bodies_found count [] t fit done above within = refl
   bodies_found count (rule ∷ rest) t fit done above within =
-      ap₂ (λ (b : Bool) (l : List Rule). cond b (rule ∷ l) l) (first_found count rule rest t fit done above within)
-      (bodies_found count rest t (and_right (rule_fits program count rule) (list_all (rule_fits program count) rest) fit)
-      (all_right (contains below) (units_of_rule rule) (flat_map units_of_rule rest) done) above within)
+      ap₂ (λ (b : Bool) (l : List Rule). cond b (rule ∷ l) l) (first_found count rule rest t fit
+      done above within)
+      (bodies_found count rest t (and_right (rule_fits program count rule)
+      (list_all (rule_fits program count) rest) fit)
+      (all_right (contains below) (units_of_rule rule) (flat_map units_of_rule rest) done) above
+      within)
 
-  some_found : (count : ℕ) (rules : List Rule) (t : ℕ) → list_all (rule_fits program count) rules ≡ true →
-      list_all (contains below) (flat_map units_of_rule rules) ≡ true → left program.plan 0 < t → t ≤ right program.plan 0 →
-      list_any (λ rule. body_holds (known rows store) rule t) rules ≡ list_any (λ rule. body_holds (query_table program history 0) rule t) rules
+  some_found : (count : ℕ) (rules : List Rule) (t : ℕ) → list_all (rule_fits program count) rules
+      ≡ true →
+      list_all (contains below) (flat_map units_of_rule rules) ≡ true → left program.plan 0 < t
+      → t ≤ right program.plan 0 →
+      list_any (λ rule. body_holds (known rows store) rule t) rules
+      ≡ list_any (λ rule. body_holds (query_table program history 0) rule t) rules
   some_found count [] t fit done above within = refl
   some_found count (rule ∷ rest) t fit done above within =
       ap₂ (λ (a b : Bool). a || b) (first_found count rule rest t fit done above within)
-      (some_found count rest t (and_right (rule_fits program count rule) (list_all (rule_fits program count) rest) fit)
-      (all_right (contains below) (units_of_rule rule) (flat_map units_of_rule rest) done) above within)
+      (some_found count rest t (and_right (rule_fits program count rule)
+      (list_all (rule_fits program count) rest) fit)
+      (all_right (contains below) (units_of_rule rule) (flat_map units_of_rule rest) done) above
+      within)
 
-  values_found : (count : ℕ) (rules : List Rule) (t : ℕ) → list_all (rule_fits program count) rules ≡ true →
-      list_all (contains below) (flat_map units_of_rule rules) ≡ true → left program.plan 0 < t → t ≤ right program.plan 0 →
+  values_found : (count : ℕ) (rules : List Rule) (t : ℕ) → list_all (rule_fits program count) rules
+      ≡ true →
+      list_all (contains below) (flat_map units_of_rule rules) ≡ true → left program.plan 0 < t
+      → t ≤ right program.plan 0 →
       values_of (known rows store) rules t ≡ values_of (query_table program history 0) rules t
-  values_found count rules t fit done above within = ap (map (λ (rule : Rule). rule.value)) (bodies_found count rules t fit done above within)
+  values_found count rules t fit done above within = ap (map (λ (rule : Rule). rule.value))
+      (bodies_found count rules t fit done above within)
 
   -- the value of a simple fluent over the rows is that in query 0
   simple_found : (number count v t : ℕ) (initially : Option ℕ) (initiate terminate : List Rule) →
-      kind_of program number ≡ Simple initially initiate terminate → listed (opening_of program history 0) number ≡ initially →
-      DoesFit program count initiate terminate → list_all (contains below) (units_of_kind (Simple initially initiate terminate)) ≡ true →
+      kind_of program number ≡ Simple initially initiate terminate
+      → listed (opening_of program history 0) number ≡ initially →
+      DoesFit program count initiate terminate
+      → list_all (contains below) (units_of_kind (Simple initially initiate terminate)) ≡ true →
       left program.plan 0 < t → t ≤ right program.plan 0 + 1 →
-      is_value (value_of_unit (known rows store) initially (Simple initially initiate terminate) (left program.plan 0) t) v
+      is_value (value_of_unit (known rows store) initially (Simple initially initiate terminate)
+      (left program.plan 0) t) v
       ≡ holds (query_table program history 0) number v t
   simple_found number count v t initially initiate terminate kind opens fit done above within =
       let w = left program.plan 0 in
       let q = right program.plan 0 in
       let table : Table = query_table program history 0 in
       let means = table_means program history sound in
-      let at : table.value number t ≡ value_of_unit table initially (Simple initially initiate terminate) w t =
-      means.simple_fluents number t ∙ ap₂ (λ (o : Option ℕ) (k : UnitKind). value_of_unit table o k w t) opens kind in
-      let none : table.static number v t ≡ false = means.static_fluents number v t ∙ ap (λ (k : UnitKind). static_of_unit table k v t) kind in
-      let same : value_of_unit (known rows store) initially (Simple initially initiate terminate) w t
+      let at : table.value number t ≡ value_of_unit table initially (Simple initially initiate
+      terminate) w t =
+      means.simple_fluents number t ∙ ap₂ (λ (o : Option ℕ) (k : UnitKind). value_of_unit table o k
+      w t) opens kind in
+      let none : table.static number v t ≡ false = means.static_fluents number v t
+      ∙ ap (λ (k : UnitKind). static_of_unit table k v t) kind in
+      let same : value_of_unit (known rows store) initially (Simple initially initiate terminate) w
+      t
       ≡ value_of_unit table initially (Simple initially initiate terminate) w t =
-      value_alike initially (values_of (known rows store) initiate) (values_of table initiate) (values_of (known rows store) terminate)
+      value_alike initially (values_of (known rows store) initiate) (values_of table initiate)
+      (values_of (known rows store) terminate)
       (values_of table terminate) w q t above within
       (λ u p low high. ap (λ (l : List ℕ). contains l u) (values_found count initiate p fit.inits
-      (all_left (contains below) (flat_map units_of_rule initiate) (flat_map units_of_rule terminate) done) low high))
+      (all_left (contains below) (flat_map units_of_rule initiate)
+      (flat_map units_of_rule terminate) done) low high))
       (λ u p low high. ap (λ (l : List ℕ). contains l u) (values_found count terminate p fit.terms
-      (all_right (contains below) (flat_map units_of_rule initiate) (flat_map units_of_rule terminate) done) low high)) in
+      (all_right (contains below) (flat_map units_of_rule initiate)
+      (flat_map units_of_rule terminate) done) low high)) in
       ap (λ (o : Option ℕ). is_value o v) (same ∙ sym at)
       ∙ sym (or-false (is_value (table.value number t) v))
       ∙ ap (λ (b : Bool). is_value (table.value number t) v || b) (sym none)
 
-  derived_found : (number t : ℕ) (rules : List Rule) → kind_of program number ≡ Derived rules → list_all (rule_fits program 1) rules ≡ true →
-      list_all (contains below) (flat_map units_of_rule rules) ≡ true → left program.plan 0 < t → t ≤ right program.plan 0 →
-      derived_of_unit (known rows store) (Derived rules) t ≡ (query_table program history 0).derived number t
+  derived_found : (number t : ℕ) (rules : List Rule) → kind_of program number ≡ Derived rules
+      → list_all (rule_fits program 1) rules ≡ true →
+      list_all (contains below) (flat_map units_of_rule rules) ≡ true → left program.plan 0 < t
+      → t ≤ right program.plan 0 →
+      derived_of_unit (known rows store) (Derived rules) t
+      ≡ (query_table program history 0).derived number t
   derived_found number t rules kind fit done above within =
       let table : Table = query_table program history 0 in
       some_found 1 rules t fit done above within
-      ∙ sym ((table_means program history sound).derived_events number t ∙ ap (λ (k : UnitKind). derived_of_unit table k t) kind)
+      ∙ sym ((table_means program history sound).derived_events number t
+      ∙ ap (λ (k : UnitKind). derived_of_unit table k t) kind)
 
   -- a value of a statically determined fluent holds over the rows where it does in query 0
-  static_found : (number count v t : ℕ) (exprs : List Expr) → kind_of program number ≡ Static exprs → kind_fits program count (Static exprs) ≡ true →
-      list_all (contains below) (flat_map units_of_expr exprs) ≡ true → left program.plan 0 < t → t ≤ right program.plan 0 + 1 →
-      static_of_unit (known rows store) (Static exprs) v t ≡ holds (query_table program history 0) number v t
+  static_found : (number count v t : ℕ) (exprs : List Expr) → kind_of program number ≡ Static exprs
+      → kind_fits program count (Static exprs) ≡ true →
+      list_all (contains below) (flat_map units_of_expr exprs) ≡ true → left program.plan 0 < t
+      → t ≤ right program.plan 0 + 1 →
+      static_of_unit (known rows store) (Static exprs) v t ≡ holds (query_table program history 0)
+      number v t
   static_found number count v t exprs kind fits done above within =
       let w = left program.plan 0 in
       let table : Table = query_table program history 0 in
       let means = table_means program history sound in
       let none : table.value number t ≡ None =
-      means.simple_fluents number t ∙ ap (λ (k : UnitKind). value_of_unit table (listed (opening_of program history 0) number) k w t) kind in
+      means.simple_fluents number t ∙ ap (λ (k : UnitKind). value_of_unit table
+      (listed (opening_of program history 0) number) k w t) kind in
       let at : table.static number v t ≡ option_holds table (slice_get exprs v) t =
       means.static_fluents number v t ∙ ap (λ (k : UnitKind). static_of_unit table k v t) kind in
       option_found program history store below rows sound stand worked t above within exprs v
-      (and_right ((length exprs == count) && list_all is_union exprs) (list_all (expr_fits program) exprs) fits) done
+      (and_right ((length exprs == count) && list_all is_union exprs) (list_all (expr_fits program)
+      exprs) fits) done
       ∙ sym at ∙ ap (λ (o : Option ℕ). is_value o v || table.static number v t) (sym none)
 
-  kind_found : (number count : ℕ) (kind : UnitKind) → kind_of program number ≡ kind → listed (opening_of program history 0) number ≡ initial_of kind →
+  kind_found : (number count : ℕ) (kind : UnitKind) → kind_of program number ≡ kind
+      → listed (opening_of program history 0) number ≡ initial_of kind →
       kind_fits program count kind ≡ true → list_all (contains below) (units_of_kind kind) ≡ true →
-      rows_over (known rows store) (initial_of kind) count kind (left program.plan 0) (right program.plan 0)
-      ≡ rows_of_kind (query_table program history 0) number count kind (left program.plan 0) (right program.plan 0)
+      rows_over (known rows store) (initial_of kind) count kind (left program.plan 0)
+      (right program.plan 0)
+      ≡ rows_of_kind (query_table program history 0) number count kind (left program.plan 0)
+      (right program.plan 0)
   kind_found number count (Simple initially initiate terminate) kind opens fits done =
       let w = left program.plan 0 in
       let q = right program.plan 0 in
       let table : Table = query_table program history 0 in
       ap (λ (of : ℕ → List (ℕ × ℕ)). fluent_rows (map of (range_with_len 0 count)))
-      (fun_ext λ v. row_alike (λ t. is_value (value_of_unit (known rows store) initially (Simple initially initiate terminate) w t) v)
+      (fun_ext λ v. row_alike (λ t. is_value (value_of_unit (known rows store) initially
+      (Simple initially initiate terminate) w t) v)
       (holds table number v) w q
       (λ t above within. simple_found number count v t initially initiate terminate kind opens
       (fits_simple program count initially initiate terminate fits) done above within))
@@ -159,20 +217,25 @@ module _ (program : Program) (history : List Entry) (store : Events) (below : Li
       let w = left program.plan 0 in
       let q = right program.plan 0 in
       ap (λ (of : ℕ → List (ℕ × ℕ)). fluent_rows (map of (range_with_len 0 count)))
-      (fun_ext λ v. row_alike (static_of_unit (known rows store) (Static exprs) v) (holds (query_table program history 0) number v) w q
+      (fun_ext λ v. row_alike (static_of_unit (known rows store) (Static exprs) v)
+      (holds (query_table program history 0) number v) w q
       (λ t above within. static_found number count v t exprs kind fits done above within))
   kind_found number count (Derived rules) kind opens fits done =
       let w = left program.plan 0 in
       let q = right program.plan 0 in
       let table : Table = query_table program history 0 in
-      ap event_row (points_alike (derived_of_unit (known rows store) (Derived rules)) (table.derived number) w q
+      ap event_row (points_alike (derived_of_unit (known rows store) (Derived rules))
+      (table.derived number) w q
       (λ t above within. derived_found number t rules kind fits done above within))
 
-  -- the rows that a unit comes to over the rows of the units that it names are those that are published
+  -- the rows that a unit comes to over the rows of the units that it names are those that are
+  -- published
   pub rows_found : (number : ℕ) (unit : Unit) → slice_get program.units number ≡ Some unit →
       kind_fits program (unit_values program unit) unit.kind ≡ true →
       list_all (contains below) (units_of_kind unit.kind) ≡ true →
-      rows_over (known rows store) (initial_of unit.kind) (unit_values program unit) unit.kind (left program.plan 0) (right program.plan 0)
+      rows_over (known rows store) (initial_of unit.kind) (unit_values program unit) unit.kind
+      (left program.plan 0) (right program.plan 0)
       ≡ first_rows program history number unit
   rows_found number unit at fits done =
-      kind_found number (unit_values program unit) unit.kind (ap kind_or_idle at) (opening_there program history number unit at) fits done
+      kind_found number (unit_values program unit) unit.kind (ap kind_or_idle at)
+      (opening_there program history number unit at) fits done

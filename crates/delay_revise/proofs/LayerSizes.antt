@@ -1,5 +1,7 @@
 -- How many units layers have: as many as there are in all, since none stands in two.
-use Rattle.std.proofs.Common.{◌≡◌, ℕ, ◌+◌, ◌<◌, ◌≤◌, Bool, true, false, ◌&&◌, ◌||◌, ltb, eqb, List, [], ◌∷◌, ◌++◌, length, get_or, take, refl, ◌∙◌, ap, ap₂, arith, length-append}
+use Rattle.std.proofs.Common.{◌≡◌, ℕ, ◌+◌, ◌<◌, ◌≤◌, Bool, true, false, ◌&&◌, ◌||◌, ltb, eqb, List}
+use Rattle.std.proofs.Common.{[], ◌∷◌, ◌++◌, length, get_or, take, refl, ◌∙◌, ap, ap₂, arith}
+use Rattle.std.proofs.Common.{length-append}
 use Rattle.std.specs.Prelude.{sum_by}
 use Rattle.std.specs.List.{list_any, list_all, AllByRecursion, IsDistinct}
 use Rattle.std.proofs.lemmas.Bool.Decides.{nat_tests}
@@ -17,22 +19,27 @@ use Rattle.delay_revise.proofs.LayerParts.{IsFirstUnit, first_unit}
 abbrev pub are_below : ℕ → List ℕ → Bool
 are_below n xs = list_all (λ x. ltb x n) xs
 
-layer_known : (program : Program) (below layer : List ℕ) → is_layer program below layer ≡ true → are_below (length program.units) layer ≡ true
+layer_known : (program : Program) (below layer : List ℕ) → is_layer program below layer ≡ true
+    → are_below (length program.units) layer ≡ true
 layer_known program below [] is = refl
 layer_known program below (unit ∷ rest) is =
     let first : IsFirstUnit program below unit rest = first_unit program below unit rest is in
     ap₂ (λ (a b : Bool). a && b) first.known (layer_known program below rest first.others)
 
-layers_by : (program : Program) (below : List ℕ) (layers : List (List ℕ)) → are_layers program below layers ≡ true →
+layers_by : (program : Program) (below : List ℕ) (layers : List (List ℕ))
+    → are_layers program below layers ≡ true →
     list_all (are_below (length program.units)) layers ≡ true
 layers_by program below [] is = refl
 layers_by program below (layer ∷ rest) is =
     ap₂ (λ (a b : Bool). a && b)
-    (layer_known program below layer (and_left (is_layer program below layer) (are_layers program (below ++ layer) rest) is))
-    (layers_by program (below ++ layer) rest (and_right (is_layer program below layer) (are_layers program (below ++ layer) rest) is))
+    (layer_known program below layer (and_left (is_layer program below layer)
+    (are_layers program (below ++ layer) rest) is))
+    (layers_by program (below ++ layer) rest (and_right (is_layer program below layer)
+    (are_layers program (below ++ layer) rest) is))
 
 -- each unit of a layer is one of the program
-pub layers_known : (program : Program) → IsLayered program → list_all (are_below (length program.units)) program.layers ≡ true
+pub layers_known : (program : Program) → IsLayered program
+    → list_all (are_below (length program.units)) program.layers ≡ true
 layers_known program layered = layers_by program [] program.layers layered.order
 
 other_way : (x y : ℕ) (b : Bool) → (eqb y x || b) ≡ false → (eqb x y ≡ false) × (b ≡ false)
@@ -45,12 +52,16 @@ apart_of x (y ∷ ys) out =
     let both : (eqb x y ≡ false) × (contains ys x ≡ false) = other_way x y (contains ys x) out in
     (both.0, apart_of x ys both.1)
 
-out_of_both : (xs ys : List ℕ) (x : ℕ) → contains xs x ≡ false → contains ys x ≡ false → contains (xs ++ ys) x ≡ false
-out_of_both xs ys x first second = list_any-append (λ y. eqb y x) xs ys ∙ ap₂ (λ (a b : Bool). a || b) first second
+out_of_both : (xs ys : List ℕ) (x : ℕ) → contains xs x ≡ false → contains ys x ≡ false
+    → contains (xs ++ ys) x ≡ false
+out_of_both xs ys x first second = list_any-append (λ y. eqb y x) xs ys
+    ∙ ap₂ (λ (a b : Bool). a || b) first second
 
 -- a layer in front of units that stand before it
-distinct_more : (program : Program) (below units layer : List ℕ) → is_layer program below layer ≡ true →
-    ((unit : ℕ) → contains below unit ≡ false → contains units unit ≡ false) → IsDistinct eqb units → IsDistinct eqb (layer ++ units)
+distinct_more : (program : Program) (below units layer : List ℕ) → is_layer program below layer
+    ≡ true →
+    ((unit : ℕ) → contains below unit ≡ false → contains units unit ≡ false) → IsDistinct eqb units
+    → IsDistinct eqb (layer ++ units)
 unfolding IsDistinct
 distinct_more program below units [] is out distinct = distinct
 distinct_more program below units (unit ∷ rest) is out distinct =
@@ -59,29 +70,40 @@ distinct_more program below units (unit ∷ rest) is out distinct =
       distinct_more program below units rest first.others out distinct,
     )
 
-below_by : (n q x : ℕ) (later : Bool) → ltb x n ≡ true → (later ≡ true → q < n) → (eqb q x || later) ≡ true → q < n
+below_by : (n q x : ℕ) (later : Bool) → ltb x n ≡ true → (later ≡ true → q < n)
+    → (eqb q x || later) ≡ true → q < n
 below_by n q x true is go at = go refl
 below_by n q x false is go at = grind (arith, nat_tests)
 
-below_of : (n : ℕ) (xs : List ℕ) (q : ℕ) → are_below n xs ≡ true → list_any (eqb q) xs ≡ true → q < n
+below_of : (n : ℕ) (xs : List ℕ) (q : ℕ) → are_below n xs ≡ true → list_any (eqb q) xs ≡ true
+    → q < n
 below_of n [] q all at = cc
 below_of n (x ∷ xs) q all at =
     below_by n q x (list_any (eqb q) xs) (and_left (ltb x n) (are_below n xs) all)
     (λ later. below_of n xs q (and_right (ltb x n) (are_below n xs) all) later) at
 
-few_by : (program : Program) (below units : List ℕ) (layers : List (List ℕ)) → are_layers program below layers ≡ true →
-    ((unit : ℕ) → contains below unit ≡ false → contains units unit ≡ false) → IsDistinct eqb units → are_below (length program.units) units ≡ true →
+few_by : (program : Program) (below units : List ℕ) (layers : List (List ℕ))
+    → are_layers program below layers ≡ true →
+    ((unit : ℕ) → contains below unit ≡ false → contains units unit ≡ false) → IsDistinct eqb units
+    → are_below (length program.units) units ≡ true →
     length units + sum_by length layers ≤ length program.units
 few_by program below units [] is out distinct all =
-    omega (arith, length-le_from_distinct_below units (length program.units) distinct (λ q at. below_of (length program.units) units q all at))
+    omega (
+      arith,
+      length-le_from_distinct_below units (length program.units) distinct
+          (λ q at. below_of (length program.units) units q all at),
+    )
 few_by program below units (layer ∷ rest) is out distinct all =
-    let here : is_layer program below layer ≡ true = and_left (is_layer program below layer) (are_layers program (below ++ layer) rest) is in
+    let here : is_layer program below layer ≡ true = and_left (is_layer program below layer)
+    (are_layers program (below ++ layer) rest) is in
     let later : length (layer ++ units) + sum_by length rest ≤ length program.units =
     few_by program (below ++ layer) (layer ++ units) rest
     (and_right (is_layer program below layer) (are_layers program (below ++ layer) rest) is)
-    (λ unit none. let both = contains_neither below layer unit none in out_of_both layer units unit both.1 (out unit both.0))
+    (λ unit none. let both = contains_neither below layer unit none in
+    out_of_both layer units unit both.1 (out unit both.0))
     (distinct_more program below units layer here out distinct)
-    (list_all-append (λ x. ltb x (length program.units)) layer units ∙ ap₂ (λ (a b : Bool). a && b) (layer_known program below layer here) all) in
+    (list_all-append (λ x. ltb x (length program.units)) layer units ∙ ap₂ (λ (a b : Bool). a && b)
+    (layer_known program below layer here) all) in
     omega (arith, later, length-append layer units, sum_by-cons length layer rest)
 
 distinct_none : IsDistinct eqb []
@@ -89,23 +111,29 @@ unfolding IsDistinct
 distinct_none = tt
 
 -- together they have no more units than the program
-pub few_in_layers : (program : Program) → IsLayered program → sum_by length program.layers ≤ length program.units
+pub few_in_layers : (program : Program) → IsLayered program → sum_by length program.layers ≤ length
+    program.units
 few_in_layers program layered =
     let few : length {A = ℕ} [] + sum_by length program.layers ≤ length program.units =
     few_by program [] [] program.layers layered.order (λ unit out. refl) distinct_none refl in
     omega (arith, few)
 
 -- the units of each layer are units of the program
-pub layer_known_at : (program : Program) (layers : List (List ℕ)) (i : ℕ) (layer : List ℕ) → IsSound program → layers ≡ program.layers →
-    i < length layers → layer ≡ get_or layers i layer → are_below (length program.units) layer ≡ true
+pub layer_known_at : (program : Program) (layers : List (List ℕ)) (i : ℕ) (layer : List ℕ)
+    → IsSound program → layers ≡ program.layers →
+    i < length layers → layer ≡ get_or layers i layer → are_below (length program.units) layer
+    ≡ true
 layer_known_at program layers i layer sound all within is =
     let passes : list_all (are_below (length program.units)) layers ≡ true =
     ap (list_all (are_below (length program.units))) all ∙ layers_known program sound.layers in
-    ap (are_below (length program.units)) is ∙ AllPass-from_list_all (are_below (length program.units)) layers passes i layer within
+    ap (are_below (length program.units)) is
+    ∙ AllPass-from_list_all (are_below (length program.units)) layers passes i layer within
 
 -- the layers so far and the next have at most as many units as a program may have
-pub layers_fit : (program : Program) (layers : List (List ℕ)) (i : ℕ) (layer : List ℕ) → IsSound program → layers ≡ program.layers →
-    i < length layers → layer ≡ get_or layers i layer → sum_by length (take i layers) + length layer ≤ 65536
+pub layers_fit : (program : Program) (layers : List (List ℕ)) (i : ℕ) (layer : List ℕ)
+    → IsSound program → layers ≡ program.layers →
+    i < length layers → layer ≡ get_or layers i layer → sum_by length (take i layers) + length
+    layer ≤ 65536
 layers_fit program layers i layer sound all within is =
     omega (
       arith,

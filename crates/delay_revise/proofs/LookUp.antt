@@ -1,5 +1,7 @@
 -- What is looked up in the rows of units that are worked is what is true in query 0.
-use Rattle.std.proofs.Common.{◌≡◌, ℕ, ◌+◌, ◌-◌, ◌<◌, ◌≤◌, Bool, true, false, not, cond, ◌&&◌, ◌||◌, leb, ltb, nat_lt, List, [], ◌∷◌, map, flat_map, length, slice_get, Option, Some, None, refl, sym, ◌∙◌, ap, ap₂, arith}
+use Rattle.std.proofs.Common.{◌≡◌, ℕ, ◌+◌, ◌-◌, ◌<◌, ◌≤◌, Bool, true, false, not, cond, ◌&&◌, ◌||◌}
+use Rattle.std.proofs.Common.{leb, ltb, nat_lt, List, [], ◌∷◌, map, flat_map, length, slice_get}
+use Rattle.std.proofs.Common.{Option, Some, None, refl, sym, ◌∙◌, ap, ap₂, arith}
 use Rattle.std.specs.Prelude.{option_map}
 use Rattle.std.specs.List.{list_all, range_with_len}
 use Rattle.std.proofs.lemmas.Bool.Decides.{nat_tests}
@@ -12,7 +14,8 @@ use Rattle.ground_types.specs.Members.{contains}
 use Rattle.ground_types.specs.Publication.{rows_of_kind, opening_of, events_of_query, query_table}
 use Rattle.ground_types.specs.Recognition.{is_among, listed}
 use Rattle.ground_types.specs.Rows.{covers, row, points}
-use Rattle.ground_types.specs.Sound.{IsSound, unit_values, is_fluent, is_fluent_value, is_derived_event, trigger_fits, what_fits, rule_fits}
+use Rattle.ground_types.specs.Sound.{IsSound, unit_values, is_fluent, is_fluent_value}
+use Rattle.ground_types.specs.Sound.{is_derived_event, trigger_fits, what_fits, rule_fits}
 use Rattle.ground_types.specs.Truth.{Table, holds, happens, is_so, condition_holds, body_holds}
 use Rattle.ground_types.specs.Windows.{left, right}
 use Rattle.ground_types.proofs.Layers.{layers_are_meaning}
@@ -45,24 +48,29 @@ use Rattle.delay_revise.proofs.Occurs.{inside_is, occurs_there}
 -- where the input events of query 0 occur
 abbrev occurs_in : Program → List Entry → ℕ → ℕ → Bool
 occurs_in program history event t =
-    ltb (left program.plan 0) t && leb t (right program.plan 0) && is_among (events_of_query program history 0) event t
+    ltb (left program.plan 0) t && leb t (right program.plan 0)
+    && is_among (events_of_query program history 0) event t
 
 -- everything in the table of query 0 is as the definitions say
 pub table_means : (program : Program) (history : List Entry) → IsSound program →
-    IsMeaning program (listed (opening_of program history 0)) (occurs_in program history) (left program.plan 0) (query_table program history 0)
+    IsMeaning program (listed (opening_of program history 0)) (occurs_in program history)
+    (left program.plan 0) (query_table program history 0)
 table_means program history sound =
-    layers_are_meaning program (listed (opening_of program history 0)) (occurs_in program history) (left program.plan 0) sound.layers
+    layers_are_meaning program (listed (opening_of program history 0)) (occurs_in program history)
+    (left program.plan 0) sound.layers
 
 -- the spans as pairs have the same points
 pub covers_pairs : (row : List Span) (t : ℕ) → has_span row t ≡ covers (pairs row) t
 covers_pairs [] t = refl
-covers_pairs (s ∷ rest) t = ap (λ (b : Bool). (ltb s.after t && leb t s.until) || b) (covers_pairs rest t)
+covers_pairs (s ∷ rest) t = ap (λ (b : Bool). (ltb s.after t && leb t s.until) || b)
+    (covers_pairs rest t)
 
 abbrev pub option_covers : Option (List (ℕ × ℕ)) → ℕ → Bool
 option_covers None t = false
 option_covers (Some row) t = covers row t
 
-pub value_covers_pairs : (row : Option (List Span)) (t : ℕ) → value_covers row t ≡ option_covers (option_map pairs row) t
+pub value_covers_pairs : (row : Option (List Span)) (t : ℕ) → value_covers row t
+    ≡ option_covers (option_map pairs row) t
 value_covers_pairs None t = refl
 value_covers_pairs (Some row) t = covers_pairs row t
 
@@ -72,10 +80,12 @@ zero_first v = omega arith
 range_at : (n v : ℕ) → v < n → slice_get (range_with_len 0 n) v ≡ Some v
 range_at n v lt =
     let within : v < length (range_with_len 0 n) = omega (arith, length-range_with_len 0 n) in
-    slice_get-get_or (range_with_len 0 n) v 0 within ∙ ap Some (get_or-range_with_len 0 n v 0 lt ∙ zero_first v)
+    slice_get-get_or (range_with_len 0 n) v 0 within ∙ ap Some (get_or-range_with_len 0 n v 0 lt
+    ∙ zero_first v)
 
 -- the row of a value among those of a fluent
-value_has : (rows : List (List Span)) (of : ℕ → List (ℕ × ℕ)) (count v t : ℕ) → v < count → map pairs rows ≡ map of (range_with_len 0 count) →
+value_has : (rows : List (List Span)) (of : ℕ → List (ℕ × ℕ)) (count v t : ℕ) → v < count
+    → map pairs rows ≡ map of (range_with_len 0 count) →
     value_covers (slice_get rows v) t ≡ covers (of v) t
 value_has rows of count v t lt same =
     value_covers_pairs (slice_get rows v) t
@@ -84,23 +94,31 @@ value_has rows of count v t lt same =
     ∙ slice_get-map of (range_with_len 0 count) v ∙ ap (option_map of) (range_at count v lt))
 
 -- a fluent's rows have the points of its value's row
-fluent_has_row : (table : Table) (number count : ℕ) (kind : UnitKind) (w q v t : ℕ) (rows : Option UnitRows) → is_fluent kind ≡ true → v < count →
-    option_map published rows ≡ Some (rows_of_kind table number count kind w q) → fluent_has rows v t ≡ covers (row (holds table number v) w q) t
+fluent_has_row : (table : Table) (number count : ℕ) (kind : UnitKind) (w q v t : ℕ)
+    (rows : Option UnitRows) → is_fluent kind ≡ true → v < count →
+    option_map published rows ≡ Some (rows_of_kind table number count kind w q)
+    → fluent_has rows v t ≡ covers (row (holds table number v) w q) t
 fluent_has_row table number count kind w q v t None fluent lt is = cc
-fluent_has_row table number count (Simple initially initiate terminate) w q v t (Some (Fluent rows)) fluent lt is =
-    let same : map pairs rows ≡ map (λ v. row (holds table number v) w q) (range_with_len 0 count) = cc in
+fluent_has_row table number count (Simple initially initiate terminate) w q v t
+    (Some (Fluent rows)) fluent lt is =
+    let same : map pairs rows ≡ map (λ v. row (holds table number v) w q) (range_with_len 0 count)
+    = cc in
     value_has rows (λ v. row (holds table number v) w q) count v t lt same
 fluent_has_row table number count (Static exprs) w q v t (Some (Fluent rows)) fluent lt is =
-    let same : map pairs rows ≡ map (λ v. row (holds table number v) w q) (range_with_len 0 count) = cc in
+    let same : map pairs rows ≡ map (λ v. row (holds table number v) w q) (range_with_len 0 count)
+    = cc in
     value_has rows (λ v. row (holds table number v) w q) count v t lt same
 fluent_has_row table number count (Derived rules) w q v t (Some (Fluent rows)) fluent lt is = cc
-fluent_has_row table number count (Simple initially initiate terminate) w q v t (Some (Event points)) fluent lt is = cc
+fluent_has_row table number count (Simple initially initiate terminate) w q v t
+    (Some (Event points)) fluent lt is = cc
 fluent_has_row table number count (Static exprs) w q v t (Some (Event points)) fluent lt is = cc
 fluent_has_row table number count (Derived rules) w q v t (Some (Event points)) fluent lt is = cc
 
 -- a derived event's row has its points
-event_has_row : (table : Table) (number count : ℕ) (kind : UnitKind) (w q t : ℕ) (rows : Option UnitRows) → not (is_fluent kind) ≡ true →
-    option_map published rows ≡ Some (rows_of_kind table number count kind w q) → event_has rows t ≡ contains (points (table.derived number) w q) t
+event_has_row : (table : Table) (number count : ℕ) (kind : UnitKind) (w q t : ℕ)
+    (rows : Option UnitRows) → not (is_fluent kind) ≡ true →
+    option_map published rows ≡ Some (rows_of_kind table number count kind w q) → event_has rows t
+    ≡ contains (points (table.derived number) w q) t
 event_has_row table number count kind w q t None event is = cc
 event_has_row table number count (Simple initially initiate terminate) w q t rows event is = cc
 event_has_row table number count (Static exprs) w q t rows event is = cc
@@ -112,16 +130,21 @@ event_has_row table number count (Derived rules) w q t (Some (Event list)) event
 -- at a value point the row has what the test says
 covers_inside : (test : ℕ → Bool) (w q t : ℕ) → w < t → t ≤ q + 1 → covers (row test w q) t ≡ test t
 covers_inside test w q t above within =
-    (runs_are test w (q + 1 - w)).each t ∙ inside_is w (w + (q + 1 - w)) t (test t) above (omega arith)
+    (runs_are test w (q + 1 - w)).each t ∙ inside_is w (w + (q + 1 - w)) t (test t) above
+    (omega arith)
 
 -- at an event point the points are where the test is true
-contains_inside : (test : ℕ → Bool) (w q t : ℕ) → w < t → t ≤ q → contains (points test w q) t ≡ test t
+contains_inside : (test : ℕ → Bool) (w q t : ℕ) → w < t → t ≤ q → contains (points test w q) t
+    ≡ test t
 contains_inside test w q t above within =
     (points_are test w q (omega arith)).each t ∙ inside_is w q t (test t) above within
 
-module _ (program : Program) (history : List Entry) (store : Events) (below : List ℕ) (rows : List UnitRows)
-    (sound : IsSound program) (stand : Stand program store (before_seal history 0)) (worked : IsWorked program store below rows) where
-  value_by : (number v t : ℕ) (unit : Option Unit) → slice_get program.units number ≡ unit → is_fluent_value program unit v ≡ true →
+module _ (program : Program) (history : List Entry) (store : Events) (below : List ℕ)
+    (rows : List UnitRows)
+    (sound : IsSound program) (stand : Stand program store (before_seal history 0))
+    (worked : IsWorked program store below rows) where
+  value_by : (number v t : ℕ) (unit : Option Unit) → slice_get program.units number ≡ unit
+      → is_fluent_value program unit v ≡ true →
       contains below number ≡ true → left program.plan 0 < t → t ≤ right program.plan 0 + 1 →
       fluent_has (slice_get rows number) v t ≡ holds (query_table program history 0) number v t
   value_by number v t None at fits done above within = cc
@@ -129,18 +152,25 @@ module _ (program : Program) (history : List Entry) (store : Events) (below : Li
       let table = query_table program history 0 in
       let w = left program.plan 0 in
       let q = right program.plan 0 in
-      let few : nat_lt v (unit_values program unit) ≡ true = and_right (is_fluent unit.kind) (nat_lt v (unit_values program unit)) fits in
-      fluent_has_row table number (unit_values program unit) unit.kind w q v t (slice_get rows number)
-      (and_left (is_fluent unit.kind) (nat_lt v (unit_values program unit)) fits) (grind (arith, nat_tests))
+      let few : nat_lt v (unit_values program unit) ≡ true = and_right (is_fluent unit.kind)
+      (nat_lt v (unit_values program unit)) fits in
+      fluent_has_row table number (unit_values program unit) unit.kind w q v t
+      (slice_get rows number)
+      (and_left (is_fluent unit.kind) (nat_lt v (unit_values program unit)) fits)
+      (grind (arith, nat_tests))
       (worked.each number unit at done history stand)
       ∙ covers_inside (holds table number v) w q t above within
 
   -- a fluent-value holds at a value point where its row has it
-  pub value_found : (number v t : ℕ) → is_fluent_value program (slice_get program.units number) v ≡ true → contains below number ≡ true →
-      left program.plan 0 < t → t ≤ right program.plan 0 + 1 → holds (known rows store) number v t ≡ holds (query_table program history 0) number v t
-  value_found number v t fits done above within = value_by number v t (slice_get program.units number) refl fits done above within
+  pub value_found : (number v t : ℕ) → is_fluent_value program (slice_get program.units number) v
+      ≡ true → contains below number ≡ true →
+      left program.plan 0 < t → t ≤ right program.plan 0 + 1 → holds (known rows store) number v t
+      ≡ holds (query_table program history 0) number v t
+  value_found number v t fits done above within =
+      value_by number v t (slice_get program.units number) refl fits done above within
 
-  event_by : (number t : ℕ) (unit : Option Unit) → slice_get program.units number ≡ unit → is_derived_event unit ≡ true →
+  event_by : (number t : ℕ) (unit : Option Unit) → slice_get program.units number ≡ unit
+      → is_derived_event unit ≡ true →
       contains below number ≡ true → left program.plan 0 < t → t ≤ right program.plan 0 →
       event_has (slice_get rows number) t ≡ (query_table program history 0).derived number t
   event_by number t None at fits done above within = cc
@@ -148,20 +178,26 @@ module _ (program : Program) (history : List Entry) (store : Events) (below : Li
       let table = query_table program history 0 in
       let w = left program.plan 0 in
       let q = right program.plan 0 in
-      event_has_row table number (unit_values program unit) unit.kind w q t (slice_get rows number) fits (worked.each number unit at done history stand)
+      event_has_row table number (unit_values program unit) unit.kind w q t (slice_get rows number)
+      fits (worked.each number unit at done history stand)
       ∙ contains_inside (table.derived number) w q t above within
 
-  first_done : (number : ℕ) (rest : List ℕ) → list_all (contains below) (number ∷ rest) ≡ true → contains below number ≡ true
+  first_done : (number : ℕ) (rest : List ℕ) → list_all (contains below) (number ∷ rest) ≡ true
+      → contains below number ≡ true
   first_done number rest all = and_left (contains below number) (list_all (contains below) rest) all
 
   -- a trigger happens at an event point where it does so over the rows
-  pub trigger_found : (trigger : Trigger) (t : ℕ) → trigger_fits program trigger ≡ true → list_all (contains below) (units_of_trigger trigger) ≡ true →
-      left program.plan 0 < t → t ≤ right program.plan 0 → happens (known rows store) trigger t ≡ happens (query_table program history 0) trigger t
+  pub trigger_found : (trigger : Trigger) (t : ℕ) → trigger_fits program trigger ≡ true
+      → list_all (contains below) (units_of_trigger trigger) ≡ true →
+      left program.plan 0 < t → t ≤ right program.plan 0 → happens (known rows store) trigger t
+      ≡ happens (query_table program history 0) trigger t
   trigger_found (trigger.Event event) t fits done above within =
       let few : event < program.events = grind (arith, nat_tests) in
-      sym ((table_means program history sound).input_events event t ∙ occurs_there program history store event t stand few above within)
+      sym ((table_means program history sound).input_events event t ∙ occurs_there program history
+      store event t stand few above within)
   trigger_found (trigger.Derived unit) t fits done above within =
-      event_by unit t (slice_get program.units unit) refl fits (first_done unit [] done) above within
+      event_by unit t (slice_get program.units unit) refl fits (first_done unit [] done) above
+      within
   trigger_found (trigger.Start unit v) t fits done above within =
       ap₂ (λ (a b : Bool). not a && b)
       (value_found unit v t fits (first_done unit [] done) above (omega arith))
@@ -171,37 +207,55 @@ module _ (program : Program) (history : List Entry) (store : Events) (below : Li
       (value_found unit v t fits (first_done unit [] done) above (omega arith))
       (value_found unit v (t + 1) fits (first_done unit [] done) (omega arith) (omega arith))
 
-  what_found : (what : What) (t : ℕ) → what_fits program what ≡ true → list_all (contains below) (units_of_what what) ≡ true →
-      left program.plan 0 < t → t ≤ right program.plan 0 → is_so (known rows store) what t ≡ is_so (query_table program history 0) what t
-  what_found (Happens trigger) t fits done above within = trigger_found trigger t fits done above within
-  what_found (Holds unit v) t fits done above within = value_found unit v t fits (first_done unit [] done) above (omega arith)
+  what_found : (what : What) (t : ℕ) → what_fits program what ≡ true
+      → list_all (contains below) (units_of_what what) ≡ true →
+      left program.plan 0 < t → t ≤ right program.plan 0 → is_so (known rows store) what t
+      ≡ is_so (query_table program history 0) what t
+  what_found (Happens trigger) t fits done above within = trigger_found trigger t fits done above
+      within
+  what_found (Holds unit v) t fits done above within = value_found unit v t fits
+      (first_done unit [] done) above (omega arith)
 
-  conditions_found : (conds : List Cond) (t : ℕ) → list_all (λ cond. what_fits program cond.what) conds ≡ true →
-      list_all (contains below) (flat_map (λ cond. units_of_what cond.what) conds) ≡ true → left program.plan 0 < t → t ≤ right program.plan 0 →
-      list_all (λ cond. condition_holds (known rows store) cond t) conds ≡ list_all (λ cond. condition_holds (query_table program history 0) cond t) conds
+  conditions_found : (conds : List Cond) (t : ℕ) → list_all (λ cond. what_fits program cond.what)
+      conds ≡ true →
+      list_all (contains below) (flat_map (λ cond. units_of_what cond.what) conds) ≡ true
+      → left program.plan 0 < t → t ≤ right program.plan 0 →
+      list_all (λ cond. condition_holds (known rows store) cond t) conds
+      ≡ list_all (λ cond. condition_holds (query_table program history 0) cond t) conds
   conditions_found [] t fit done above within = refl
   conditions_found (c ∷ rest) t fit done above within =
       let more : List ℕ = flat_map (λ cond. units_of_what cond.what) rest in
-      let all : (list_all (contains below) (units_of_what c.what) && list_all (contains below) more) ≡ true =
+      let all : (list_all (contains below) (units_of_what c.what) && list_all (contains below)
+      more) ≡ true =
       sym (list_all-append (contains below) (units_of_what c.what) more) ∙ done in
       ap₂ (λ (a b : Bool). cond c.positive a (not a) && b)
-      (what_found c.what t (and_left (what_fits program c.what) (list_all (λ cond. what_fits program cond.what) rest) fit)
-      (and_left (list_all (contains below) (units_of_what c.what)) (list_all (contains below) more) all) above within)
-      (conditions_found rest t (and_right (what_fits program c.what) (list_all (λ cond. what_fits program cond.what) rest) fit)
-      (and_right (list_all (contains below) (units_of_what c.what)) (list_all (contains below) more) all) above within)
+      (what_found c.what t (and_left (what_fits program c.what)
+      (list_all (λ cond. what_fits program cond.what) rest) fit)
+      (and_left (list_all (contains below) (units_of_what c.what)) (list_all (contains below) more)
+      all) above within)
+      (conditions_found rest t (and_right (what_fits program c.what)
+      (list_all (λ cond. what_fits program cond.what) rest) fit)
+      (and_right (list_all (contains below) (units_of_what c.what)) (list_all (contains below)
+      more) all) above within)
 
   -- a body is true at an event point where it is so over the rows
-  pub body_found : (values : ℕ) (rule : Rule) (t : ℕ) → rule_fits program values rule ≡ true → list_all (contains below) (units_of_rule rule) ≡ true →
-      left program.plan 0 < t → t ≤ right program.plan 0 → body_holds (known rows store) rule t ≡ body_holds (query_table program history 0) rule t
+  pub body_found : (values : ℕ) (rule : Rule) (t : ℕ) → rule_fits program values rule ≡ true
+      → list_all (contains below) (units_of_rule rule) ≡ true →
+      left program.plan 0 < t → t ≤ right program.plan 0 → body_holds (known rows store) rule t
+      ≡ body_holds (query_table program history 0) rule t
   body_found values rule t fits done above within =
       let triggers : Bool = trigger_fits program rule.trigger in
       let others : Bool = list_all (λ cond. what_fits program cond.what) rule.conds in
       let more : List ℕ = flat_map (λ cond. units_of_what cond.what) rule.conds in
-      let first : (nat_lt rule.value values && triggers) ≡ true = and_left (nat_lt rule.value values && triggers) others fits in
-      let all : (list_all (contains below) (units_of_trigger rule.trigger) && list_all (contains below) more) ≡ true =
+      let first : (nat_lt rule.value values && triggers) ≡ true =
+      and_left (nat_lt rule.value values && triggers) others fits in
+      let all : (list_all (contains below) (units_of_trigger rule.trigger)
+      && list_all (contains below) more) ≡ true =
       sym (list_all-append (contains below) (units_of_trigger rule.trigger) more) ∙ done in
       ap₂ (λ (a b : Bool). a && b)
       (trigger_found rule.trigger t (and_right (nat_lt rule.value values) triggers first)
-      (and_left (list_all (contains below) (units_of_trigger rule.trigger)) (list_all (contains below) more) all) above within)
+      (and_left (list_all (contains below) (units_of_trigger rule.trigger))
+      (list_all (contains below) more) all) above within)
       (conditions_found rule.conds t (and_right (nat_lt rule.value values && triggers) others fits)
-      (and_right (list_all (contains below) (units_of_trigger rule.trigger)) (list_all (contains below) more) all) above within)
+      (and_right (list_all (contains below) (units_of_trigger rule.trigger))
+      (list_all (contains below) more) all) above within)

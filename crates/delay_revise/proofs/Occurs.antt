@@ -1,5 +1,6 @@
 -- Where the input events of query 0 occur.
-use Rattle.std.proofs.Common.{◌≡◌, ℕ, zero, suc, ◌+◌, ◌<◌, ◌≤◌, Bool, true, false, ◌&&◌, ◌||◌, leb, ltb, eqb, List, [], ◌∷◌, map, refl, sym, ◌∙◌, ap, ap₂, arith}
+use Rattle.std.proofs.Common.{◌≡◌, ℕ, zero, suc, ◌+◌, ◌<◌, ◌≤◌, Bool, true, false, ◌&&◌, ◌||◌, leb}
+use Rattle.std.proofs.Common.{ltb, eqb, List, [], ◌∷◌, map, refl, sym, ◌∙◌, ap, ap₂, arith}
 use Rattle.std.specs.List.{flat_map, range_with_len}
 use Rattle.std.proofs.Math.Bool.{and-false}
 use Rattle.std.proofs.lemmas.Bool.Decides.{nat_tests}
@@ -21,32 +22,42 @@ and_or : (a b c : Bool) → ((a && b) || (a && c)) ≡ (a && (b || c))
 and_or true b c = refl
 and_or false b c = refl
 
-among_one : (event other t : ℕ) (xs : List ℕ) → is_among (map (λ t. record { event = other; at = t }) xs) event t ≡ (eqb other event && contains xs t)
+among_one : (event other t : ℕ) (xs : List ℕ)
+    → is_among (map (λ t. record { event = other; at = t }) xs) event t
+    ≡ (eqb other event && contains xs t)
 among_one event other t [] = sym (and-false (eqb other event))
 among_one event other t (x ∷ xs) =
-    ap (λ (b : Bool). (eqb other event && eqb x t) || b) (among_one event other t xs) ∙ and_or (eqb other event) (eqb x t) (contains xs t)
+    ap (λ (b : Bool). (eqb other event && eqb x t) || b) (among_one event other t xs)
+    ∙ and_or (eqb other event) (eqb x t) (contains xs t)
 
 none_among : (a e : ℕ) (b : Bool) → false ≡ (leb a e && ltb e (a + 0) && b)
 none_among a e b = grind (arith, nat_tests)
 
-first_among : (a n e : ℕ) (x y : Bool) → (a ≡ e → x ≡ y) → ((eqb a e && x) || (leb (a + 1) e && ltb e (a + 1 + n) && y)) ≡ (leb a e && ltb e (a + suc n) && y)
+first_among : (a n e : ℕ) (x y : Bool) → (a ≡ e → x ≡ y)
+    → ((eqb a e && x) || (leb (a + 1) e && ltb e (a + 1 + n) && y)) ≡ (leb a e && ltb e (a + suc n)
+    && y)
 first_among a n e true true same = grind (arith, nat_tests)
 first_among a n e true false same = grind (arith, nat_tests)
 first_among a n e false true same = grind (arith, nat_tests)
 first_among a n e false false same = grind (arith, nat_tests)
 
 among_all : (at : ℕ → List ℕ) (a n event t : ℕ) →
-    is_among (flat_map (λ other. map (λ t. record { event = other; at = t }) (at other)) (range_with_len a n)) event t
+    is_among (flat_map (λ other. map (λ t. record { event = other; at = t }) (at other))
+    (range_with_len a n)) event t
     ≡ (leb a event && ltb event (a + n) && contains (at event) t)
 among_all at a zero event t = none_among a event (contains (at event) t)
 among_all at a (suc n) event t =
-    list_any-append (λ occ. eqb occ.event event && eqb occ.at t) (map (λ t. record { event = a; at = t }) (at a))
-    (flat_map (λ other. map (λ t. record { event = other; at = t }) (at other)) (range_with_len (a + 1) n))
+    list_any-append (λ occ. eqb occ.event event && eqb occ.at t)
+    (map (λ t. record { event = a; at = t }) (at a))
+    (flat_map (λ other. map (λ t. record { event = other; at = t }) (at other))
+    (range_with_len (a + 1) n))
     ∙ ap₂ (λ (x y : Bool). x || y) (among_one event a t (at a)) (among_all at (a + 1) n event t)
-    ∙ first_among a n event (contains (at a) t) (contains (at event) t) (λ is. ap (λ (e : ℕ). contains (at e) t) is)
+    ∙ first_among a n event (contains (at a) t) (contains (at event) t)
+    (λ is. ap (λ (e : ℕ). contains (at e) t) is)
 
 inside_once : (w q t e events : ℕ) (b : Bool) → e < events →
-    (ltb w t && leb t q && (leb 0 e && ltb e (0 + events) && (ltb w t && leb t q && b))) ≡ (ltb w t && leb t q && b)
+    (ltb w t && leb t q && (leb 0 e && ltb e (0 + events) && (ltb w t && leb t q && b)))
+    ≡ (ltb w t && leb t q && b)
 inside_once w q t e events true lt = grind (arith, nat_tests)
 inside_once w q t e events false lt = grind (arith, nat_tests)
 
@@ -55,25 +66,33 @@ pub inside_is : (w q t : ℕ) (b : Bool) → w < t → t ≤ q → (ltb w t && l
 inside_is w q t b above within = grind (arith, nat_tests)
 
 -- an input event of the program occurs in query 0 at the points of the window at which it stands
-pub occurs_where : (program : Program) (history : List Entry) (event t : ℕ) → event < program.events →
-    (ltb (left program.plan 0) t && leb t (right program.plan 0) && is_among (events_of_query program history 0) event t)
-    ≡ (ltb (left program.plan 0) t && leb t (right program.plan 0) && stands (before_seal history 0) event t)
+pub occurs_where : (program : Program) (history : List Entry) (event t : ℕ)
+    → event < program.events →
+    (ltb (left program.plan 0) t && leb t (right program.plan 0)
+    && is_among (events_of_query program history 0) event t)
+    ≡ (ltb (left program.plan 0) t && leb t (right program.plan 0)
+    && stands (before_seal history 0) event t)
 occurs_where program history event t within =
     let w = left program.plan 0 in
     let q = right program.plan 0 in
     let le : w ≤ q = omega arith in
     let here : ℕ → List ℕ = λ e. points (stands (before_seal history 0) e) w q in
-    let each : contains (here event) t ≡ (ltb w t && leb t q && stands (before_seal history 0) event t) =
+    let each : contains (here event) t ≡ (ltb w t && leb t q && stands (before_seal history 0)
+    event t) =
     (points_are (stands (before_seal history 0) event) w q le).each t in
     ap (λ (b : Bool). ltb w t && leb t q && b)
-    (among_all here 0 program.events event t ∙ ap (λ (b : Bool). leb 0 event && ltb event (0 + program.events) && b) each)
+    (among_all here 0 program.events event t
+    ∙ ap (λ (b : Bool). leb 0 event && ltb event (0 + program.events) && b) each)
     ∙ inside_once w q t event program.events (stands (before_seal history 0) event t) within
 
 -- so at a point of the window it occurs where the store has it
-pub occurs_there : (program : Program) (history : List Entry) (store : Events) (event t : ℕ) → Stand program store (before_seal history 0) →
+pub occurs_there : (program : Program) (history : List Entry) (store : Events) (event t : ℕ)
+    → Stand program store (before_seal history 0) →
     event < program.events → left program.plan 0 < t → t ≤ right program.plan 0 →
-    (ltb (left program.plan 0) t && leb t (right program.plan 0) && is_among (events_of_query program history 0) event t) ≡ has (standing store event) t
+    (ltb (left program.plan 0) t && leb t (right program.plan 0)
+    && is_among (events_of_query program history 0) event t) ≡ has (standing store event) t
 occurs_there program history store event t stand known above within =
     occurs_where program history event t known
-    ∙ inside_is (left program.plan 0) (right program.plan 0) t (stands (before_seal history 0) event t) above within
+    ∙ inside_is (left program.plan 0) (right program.plan 0) t (stands (before_seal history 0)
+    event t) above within
     ∙ sym (stand event t known above within)

@@ -1,5 +1,7 @@
 -- What the rules of a unit name is there, and how a unit gets its rows.
-use Rattle.std.proofs.Common.{◌≡◌, ℕ, zero, suc, ◌<◌, nat_lt, eqb, Bool, true, false, not, ◌&&◌, List, [], ◌∷◌, ◌++◌, flat_map, length, get_or, slice_get, slice_set, set, Option, Some, None, refl, sym, ◌∙◌, ap, ap₂, arith}
+use Rattle.std.proofs.Common.{◌≡◌, ℕ, zero, suc, ◌<◌, nat_lt, eqb, Bool, true, false, not, ◌&&◌}
+use Rattle.std.proofs.Common.{List, [], ◌∷◌, ◌++◌, flat_map, length, get_or, slice_get, slice_set}
+use Rattle.std.proofs.Common.{set, Option, Some, None, refl, sym, ◌∙◌, ap, ap₂, arith}
 use Rattle.std.specs.Prelude.{option_map, is_none}
 use Rattle.std.specs.List.{list_all, AllByRecursion}
 use Rattle.std.proofs.lemmas.Bool.Decides.{nat_tests}
@@ -9,7 +11,8 @@ use Rattle.std.proofs.lemmas.Option.{slice_get-map, slice_get_within, slice_get_
 use Rattle.ground_types.specs.Meaning.{units_of_trigger, units_of_what, units_of_rule}
 use Rattle.ground_types.specs.Publication.{initial_of}
 use Rattle.ground_types.specs.Recognition.{kind_of, kind_or_idle}
-use Rattle.ground_types.specs.Sound.{IsSound, unit_values, is_fluent_value, is_derived_event, trigger_fits, what_fits, rule_fits, kind_fits}
+use Rattle.ground_types.specs.Sound.{IsSound, unit_values, is_fluent_value, is_derived_event}
+use Rattle.ground_types.specs.Sound.{trigger_fits, what_fits, rule_fits, kind_fits}
 use Rattle.ground_types.specs.Touched.{rules_of}
 use Rattle.ground_types.specs.Windows.{left, right}
 use Rattle.ground_types.proofs.Members.{and_left, and_right}
@@ -38,37 +41,51 @@ use Rattle.delay_revise.proofs.WorkedUnits.{unit_of, works_unit}
 below_test : (m n : ℕ) → m < n → nat_lt m n ≡ true
 below_test m n lt = grind (arith, nat_tests)
 
-pub fluent_known : (program : Program) (number v : ℕ) (found : Option Unit) → slice_get program.units number ≡ found →
+pub fluent_known : (program : Program) (number v : ℕ) (found : Option Unit)
+    → slice_get program.units number ≡ found →
     is_fluent_value program found v ≡ true → nat_lt number (length program.units) ≡ true
 fluent_known program number v None at fits = cc
-fluent_known program number v (Some unit) at fits = below_test number (length program.units) (slice_get_within program.units number unit at)
+fluent_known program number v (Some unit) at fits = below_test number (length program.units)
+    (slice_get_within program.units number unit at)
 
-event_known : (program : Program) (number : ℕ) (found : Option Unit) → slice_get program.units number ≡ found → is_derived_event found ≡ true →
+event_known : (program : Program) (number : ℕ) (found : Option Unit)
+    → slice_get program.units number ≡ found → is_derived_event found ≡ true →
     nat_lt number (length program.units) ≡ true
 event_known program number None at fits = cc
-event_known program number (Some unit) at fits = below_test number (length program.units) (slice_get_within program.units number unit at)
+event_known program number (Some unit) at fits = below_test number (length program.units)
+    (slice_get_within program.units number unit at)
 
 -- the units that a rule names are units of the program
 module _ (program : Program) where
   trigger_named : (trigger : Trigger) → trigger_fits program trigger ≡ true →
       list_all (λ unit. nat_lt unit (length program.units)) (units_of_trigger trigger) ≡ true
   trigger_named (trigger.Event event) fits = refl
-  trigger_named (trigger.Derived unit) fits = ap (λ (b : Bool). b && true) (event_known program unit (slice_get program.units unit) refl fits)
-  trigger_named (trigger.Start unit v) fits = ap (λ (b : Bool). b && true) (fluent_known program unit v (slice_get program.units unit) refl fits)
-  trigger_named (trigger.End unit v) fits = ap (λ (b : Bool). b && true) (fluent_known program unit v (slice_get program.units unit) refl fits)
+  trigger_named (trigger.Derived unit) fits = ap (λ (b : Bool). b && true)
+      (event_known program unit (slice_get program.units unit) refl fits)
+  trigger_named (trigger.Start unit v) fits = ap (λ (b : Bool). b && true)
+      (fluent_known program unit v (slice_get program.units unit) refl fits)
+  trigger_named (trigger.End unit v) fits = ap (λ (b : Bool). b && true) (fluent_known program unit
+      v (slice_get program.units unit) refl fits)
 
-  what_named : (what : What) → what_fits program what ≡ true → list_all (λ unit. nat_lt unit (length program.units)) (units_of_what what) ≡ true
+  what_named : (what : What) → what_fits program what ≡ true
+      → list_all (λ unit. nat_lt unit (length program.units)) (units_of_what what) ≡ true
   what_named (Happens trigger) fits = trigger_named trigger fits
-  what_named (Holds unit v) fits = ap (λ (b : Bool). b && true) (fluent_known program unit v (slice_get program.units unit) refl fits)
+  what_named (Holds unit v) fits = ap (λ (b : Bool). b && true) (fluent_known program unit v
+      (slice_get program.units unit) refl fits)
 
-  conditions_named : (conds : List Cond) → list_all (λ cond. what_fits program cond.what) conds ≡ true →
-      list_all (λ unit. nat_lt unit (length program.units)) (flat_map (λ cond. units_of_what cond.what) conds) ≡ true
+  conditions_named : (conds : List Cond) → list_all (λ cond. what_fits program cond.what) conds
+      ≡ true →
+      list_all (λ unit. nat_lt unit (length program.units))
+      (flat_map (λ cond. units_of_what cond.what) conds) ≡ true
   conditions_named [] fit = refl
   conditions_named (c ∷ rest) fit =
-      list_all-append (λ unit. nat_lt unit (length program.units)) (units_of_what c.what) (flat_map (λ cond. units_of_what cond.what) rest)
+      list_all-append (λ unit. nat_lt unit (length program.units)) (units_of_what c.what)
+      (flat_map (λ cond. units_of_what cond.what) rest)
       ∙ ap₂ (λ (a b : Bool). a && b)
-      (what_named c.what (and_left (what_fits program c.what) (list_all (λ cond. what_fits program cond.what) rest) fit))
-      (conditions_named rest (and_right (what_fits program c.what) (list_all (λ cond. what_fits program cond.what) rest) fit))
+      (what_named c.what (and_left (what_fits program c.what)
+      (list_all (λ cond. what_fits program cond.what) rest) fit))
+      (conditions_named rest (and_right (what_fits program c.what)
+      (list_all (λ cond. what_fits program cond.what) rest) fit))
 
   rule_named : (count : ℕ) (rule : Rule) → rule_fits program count rule ≡ true →
       list_all (λ unit. nat_lt unit (length program.units)) (units_of_rule rule) ≡ true
@@ -76,41 +93,52 @@ module _ (program : Program) where
       let first : Bool = nat_lt rule.value count in
       let triggers : Bool = trigger_fits program rule.trigger in
       let others : Bool = list_all (λ cond. what_fits program cond.what) rule.conds in
-      list_all-append (λ unit. nat_lt unit (length program.units)) (units_of_trigger rule.trigger) (flat_map (λ cond. units_of_what cond.what) rule.conds)
+      list_all-append (λ unit. nat_lt unit (length program.units)) (units_of_trigger rule.trigger)
+      (flat_map (λ cond. units_of_what cond.what) rule.conds)
       ∙ ap₂ (λ (a b : Bool). a && b)
-      (trigger_named rule.trigger (and_right first triggers (and_left (first && triggers) others fits)))
+      (trigger_named rule.trigger (and_right first triggers (and_left (first && triggers) others
+      fits)))
       (conditions_named rule.conds (and_right (first && triggers) others fits))
 
-  rules_named : (count : ℕ) (rules : List Rule) (rows : List UnitRows) → length rows ≡ length program.units →
+  rules_named : (count : ℕ) (rules : List Rule) (rows : List UnitRows)
+      → length rows ≡ length program.units →
       list_all (rule_fits program count) rules ≡ true → AllByRecursion (HasRows rows) rules
   rules_named count [] rows size fit = tt
   rules_named count (rule ∷ rest) rows size fit = (
     ap (λ (n : ℕ). list_all (λ unit. nat_lt unit n) (units_of_rule rule)) size
-        ∙ rule_named count rule (and_left (rule_fits program count rule) (list_all (rule_fits program count) rest) fit),
-    rules_named count rest rows size (and_right (rule_fits program count rule) (list_all (rule_fits program count) rest) fit),
+        ∙ rule_named count rule (and_left (rule_fits program count rule)
+        (list_all (rule_fits program count) rest) fit),
+    rules_named count rest rows size (and_right (rule_fits program count rule)
+        (list_all (rule_fits program count) rest) fit),
   )
 
-  kind_named : (count : ℕ) (kind : UnitKind) (rows : List UnitRows) → length rows ≡ length program.units → kind_fits program count kind ≡ true →
+  kind_named : (count : ℕ) (kind : UnitKind) (rows : List UnitRows)
+      → length rows ≡ length program.units → kind_fits program count kind ≡ true →
       AllByRecursion (HasRows rows) (rules_of kind)
   kind_named count (Simple initially initiate terminate) rows size fits =
-      let fit : DoesFit program count initiate terminate = fits_simple program count initially initiate terminate fits in
+      let fit : DoesFit program count initiate terminate = fits_simple program count initially
+      initiate terminate fits in
       rules_named count (initiate ++ terminate) rows size
-      (list_all-append (rule_fits program count) initiate terminate ∙ ap₂ (λ (a b : Bool). a && b) fit.inits fit.terms)
+      (list_all-append (rule_fits program count) initiate terminate ∙ ap₂ (λ (a b : Bool). a && b)
+      fit.inits fit.terms)
   kind_named count (Static exprs) rows size fits = tt
   kind_named count (Derived rules) rows size fits = rules_named 1 rules rows size fits
 
 -- what holds of each item of two lists together holds of each of the second
-pub each_right : {X : Type 0} (P : X → Type 0) (xs ys : List X) → AllByRecursion P (xs ++ ys) → AllByRecursion P ys
+pub each_right : {X : Type 0} (P : X → Type 0) (xs ys : List X) → AllByRecursion P (xs ++ ys)
+    → AllByRecursion P ys
 each_right P [] ys all = all
 each_right P (x ∷ xs) ys all = each_right P xs ys all.1
 
 -- a list with one item put
-put_here : {X : Type 0} (xs : List X) (i : ℕ) (y : X) → i < length xs → slice_get (set xs i y) i ≡ Some y
+put_here : {X : Type 0} (xs : List X) (i : ℕ) (y : X) → i < length xs → slice_get (set xs i y) i
+    ≡ Some y
 put_here [] i y lt = absurd (omega (arith, lt))
 put_here (x ∷ xs) zero y lt = refl
 put_here (x ∷ xs) (suc i) y lt = put_here xs i y (omega (arith, lt))
 
-put_apart : {X : Type 0} (xs : List X) (i j : ℕ) (y : X) → (i ≡ j → ⊥) → slice_get (set xs i y) j ≡ slice_get xs j
+put_apart : {X : Type 0} (xs : List X) (i j : ℕ) (y : X) → (i ≡ j → ⊥) → slice_get (set xs i y) j
+    ≡ slice_get xs j
 put_apart [] i j y apart = refl
 put_apart (x ∷ xs) zero zero y apart = absurd (apart refl)
 put_apart (x ∷ xs) zero (suc j) y apart = refl
@@ -134,73 +162,97 @@ not_static false is = refl
 zero_of : (n : ℕ) → eqb n 0 ≡ true → n ≡ 0
 zero_of n is = grind (arith, nat_tests)
 
-module _ (program : Program) (store : Events) (number : ℕ) (old : List UnitRows) (unit : Unit) (w q : ℕ)
+module _ (program : Program) (store : Events) (number : ℕ) (old : List UnitRows) (unit : Unit)
+    (w q : ℕ)
     (sound : IsSound program) (size : length old ≡ length program.units)
-    (at : slice_get program.units number ≡ Some unit) (from : w ≡ left program.plan 0) (until : q ≡ right program.plan 0) where
+    (at : slice_get program.units number ≡ Some unit) (from : w ≡ left program.plan 0) (until : q
+    ≡ right program.plan 0) where
   -- the units that its rules name have rows
   pub unit_named : AllByRecursion (HasRows old) (rules_of unit.kind)
-  unit_named = kind_named program (unit_values program unit) unit.kind old size (unit_of program number unit sound at).fits
+  unit_named = kind_named program (unit_values program unit) unit.kind old size
+      (unit_of program number unit sound at).fits
 
   same_unit : (other : Unit) → slice_get program.units number ≡ Some other → unit ≡ other
   same_unit other there = let both : Some unit ≡ Some other = sym at ∙ there in cc
 
   evaluations_there : (count : ℕ) → count ≡ evaluations_over (known old store) unit.kind w q →
-      count ≡ evaluations_over (known old store) (kind_of program number) (left program.plan 0) (right program.plan 0)
+      count ≡ evaluations_over (known old store) (kind_of program number) (left program.plan 0)
+      (right program.plan 0)
   evaluations_there count is =
       is ∙ ap₂ (λ (a b : ℕ). evaluations_over (known old store) unit.kind a b) from until
-      ∙ ap (λ (k : UnitKind). evaluations_over (known old store) k (left program.plan 0) (right program.plan 0)) (sym (ap kind_or_idle at))
+      ∙ ap (λ (k : UnitKind). evaluations_over (known old store) k (left program.plan 0)
+      (right program.plan 0)) (sym (ap kind_or_idle at))
 
-  put_set : (made : UnitRows) (new : List UnitRows) → number < length program.units → new ≡ slice_set old number made →
-      published made ≡ rows_over (known old store) (initial_of unit.kind) (unit_values program unit) unit.kind w q → IsPut program store number old new
+  put_set : (made : UnitRows) (new : List UnitRows) → number < length program.units
+      → new ≡ slice_set old number made →
+      published made ≡ rows_over (known old store) (initial_of unit.kind)
+      (unit_values program unit) unit.kind w q → IsPut program store number old new
   put_set made new within set rows = record {
     size = ap (λ (l : List UnitRows). length l) set ∙ length-set old number made;
     here = λ other there.
         ap (λ (l : List UnitRows). option_map published (slice_get l number)) set
         ∙ ap (option_map published) (put_here old number made (omega (arith, size)))
         ∙ ap Some (rows
-        ∙ ap₂ (λ (a b : ℕ). rows_over (known old store) (initial_of unit.kind) (unit_values program unit) unit.kind a b) from until
-        ∙ ap (λ (u : Unit). rows_over (known old store) (initial_of u.kind) (unit_values program u) u.kind (left program.plan 0) (right program.plan 0))
+        ∙ ap₂ (λ (a b : ℕ). rows_over (known old store) (initial_of unit.kind)
+        (unit_values program unit) unit.kind a b) from until
+        ∙ ap (λ (u : Unit). rows_over (known old store) (initial_of u.kind) (unit_values program u)
+        u.kind (left program.plan 0) (right program.plan 0))
         (same_unit other there));
     others = λ other differ.
-        ap (λ (l : List UnitRows). slice_get l other) set ∙ put_apart old number other made (apart_of number other differ);
+        ap (λ (l : List UnitRows). slice_get l other) set ∙ put_apart old number other made
+        (apart_of number other differ);
   }
 
   -- a unit whose rows are put is worked
-  pub unit_put : (made : UnitRows) (new : List UnitRows) (count : ℕ) → number < length program.units → new ≡ slice_set old number made →
-      published made ≡ rows_over (known old store) (initial_of unit.kind) (unit_values program unit) unit.kind w q →
-      count ≡ evaluations_over (known old store) unit.kind w q → Works program store (number ∷ []) old new count
+  pub unit_put : (made : UnitRows) (new : List UnitRows) (count : ℕ)
+      → number < length program.units → new ≡ slice_set old number made →
+      published made ≡ rows_over (known old store) (initial_of unit.kind)
+      (unit_values program unit) unit.kind w q →
+      count ≡ evaluations_over (known old store) unit.kind w q → Works program store (number ∷ [])
+      old new count
   unit_put made new count within set rows is =
       let put : IsPut program store number old new = put_set made new within set rows in
-      works_unit program store sound number old new count put.size (put_inside program store number old new unit at put) (λ empty. put) (evaluations_there count is)
+      works_unit program store sound number old new count put.size (put_inside program store number
+      old new unit at put) (λ empty. put) (evaluations_there count is)
 
-  put_none : (count : ℕ) → is_static unit.kind ≡ false → count ≡ evaluations_over (known old store) unit.kind w q → eqb count 0 ≡ true → is_none (initial_of unit.kind) ≡ true →
-      slice_get old number ≡ slice_get (all_empty program) number → IsPut program store number old old
+  put_none : (count : ℕ) → is_static unit.kind ≡ false → count ≡ evaluations_over (known old store)
+      unit.kind w q → eqb count 0 ≡ true → is_none (initial_of unit.kind) ≡ true →
+      slice_get old number ≡ slice_get (all_empty program) number → IsPut program store number old
+      old
   put_none count other_kind is none opens empty = record {
     size = refl;
     here = λ other there.
-        ap (option_map published) (empty ∙ slice_get-map (empty_rows program) program.units number ∙ ap (option_map (empty_rows program)) at)
-        ∙ ap Some (idle_rows (known old store) (unit_values program unit) unit.kind (left program.plan 0) (right program.plan 0)
+        ap (option_map published) (empty ∙ slice_get-map (empty_rows program) program.units number
+        ∙ ap (option_map (empty_rows program)) at)
+        ∙ ap Some (idle_rows (known old store) (unit_values program unit) unit.kind
+        (left program.plan 0) (right program.plan 0)
         other_kind (none_of (initial_of unit.kind) opens)
-        (ap₂ (λ (a b : ℕ). evaluations_over (known old store) unit.kind a b) (sym from) (sym until) ∙ sym is ∙ zero_of count none)
-        ∙ ap (λ (u : Unit). rows_over (known old store) (initial_of u.kind) (unit_values program u) u.kind (left program.plan 0) (right program.plan 0))
+        (ap₂ (λ (a b : ℕ). evaluations_over (known old store) unit.kind a b) (sym from) (sym until)
+        ∙ sym is ∙ zero_of count none)
+        ∙ ap (λ (u : Unit). rows_over (known old store) (initial_of u.kind) (unit_values program u)
+        u.kind (left program.plan 0) (right program.plan 0))
         (same_unit other there));
     others = λ other differ. refl;
   }
 
   -- a unit without any row is worked as it is
-  pub unit_idle : (count : ℕ) → count ≡ evaluations_over (known old store) unit.kind w q → (not (is_static unit.kind) && eqb count 0 && is_none (initial_of unit.kind)) ≡ true →
+  pub unit_idle : (count : ℕ) → count ≡ evaluations_over (known old store) unit.kind w q
+      → (not (is_static unit.kind) && eqb count 0 && is_none (initial_of unit.kind)) ≡ true →
       Works program store (number ∷ []) old old count
   unit_idle count is idle =
       let first : (not (is_static unit.kind) && eqb count 0) ≡ true =
       and_left (not (is_static unit.kind) && eqb count 0) (is_none (initial_of unit.kind)) idle in
       works_unit program store sound number old old count refl (λ inside. inside)
-      (put_none count (not_static (is_static unit.kind) (and_left (not (is_static unit.kind)) (eqb count 0) first)) is
+      (put_none count (not_static (is_static unit.kind) (and_left (not (is_static unit.kind))
+      (eqb count 0) first)) is
       (and_right (not (is_static unit.kind)) (eqb count 0) first)
       (and_right (not (is_static unit.kind) && eqb count 0) (is_none (initial_of unit.kind)) idle))
       (evaluations_there count is)
 
 -- the unit that is read is there
-pub unit_read : (program : Program) (units : List Unit) (number : ℕ) (unit : Unit) → units ≡ program.units → number < length program.units →
+pub unit_read : (program : Program) (units : List Unit) (number : ℕ) (unit : Unit)
+    → units ≡ program.units → number < length program.units →
     unit ≡ get_or units number unit → slice_get program.units number ≡ Some unit
 unit_read program units number unit same within is =
-    slice_get_read program.units (length program.units) number unit refl within (is ∙ ap (λ (l : List Unit). get_or l number unit) same)
+    slice_get_read program.units (length program.units) number unit refl within (is
+    ∙ ap (λ (l : List Unit). get_or l number unit) same)

@@ -1,5 +1,7 @@
 -- How many bodies of a unit have to be looked at.
-use Rattle.std.proofs.Common.{◌≡◌, ℕ, suc, nat_lt, ◌+◌, ◌-◌, ◌*◌, ◌^◌, ◌<◌, ◌≤◌, Bool, true, false, cond, ◌&&◌, List, [], ◌∷◌, ◌++◌, length, filter, flat_map, Option, refl, sym, ◌∙◌, ap, ap₂, arith}
+use Rattle.std.proofs.Common.{◌≡◌, ℕ, suc, nat_lt, ◌+◌, ◌-◌, ◌*◌, ◌^◌, ◌<◌, ◌≤◌, Bool, true, false}
+use Rattle.std.proofs.Common.{cond, ◌&&◌, List, [], ◌∷◌, ◌++◌, length, filter, flat_map, Option}
+use Rattle.std.proofs.Common.{refl, sym, ◌∙◌, ap, ap₂, arith}
 use Rattle.std.specs.Prelude.{sum_by}
 use Rattle.std.specs.List.{list_all, range_with_len}
 use Rattle.std.proofs.Math.Bool.{and-true}
@@ -8,12 +10,14 @@ use Rattle.std.proofs.lemmas.List.Folds.{list_all-append}
 use Rattle.std.proofs.lemmas.List.FromFn.{length-range_with_len}
 use Rattle.std.proofs.lemmas.List.Sums.{sum_by-cons}
 use Rattle.ground_types.specs.History.{before_seal}
-use Rattle.ground_types.specs.Meaning.{units_of_trigger, units_of_what, units_of_rule, units_of_kind}
+use Rattle.ground_types.specs.Meaning.{units_of_trigger, units_of_what, units_of_rule}
+use Rattle.ground_types.specs.Meaning.{units_of_kind}
 use Rattle.ground_types.specs.Members.{contains}
 use Rattle.ground_types.specs.Publication.{query_table}
 use Rattle.ground_types.specs.Recognition.{kind_of}
 use Rattle.ground_types.specs.Rows.{points}
-use Rattle.ground_types.specs.Sound.{IsSound, trigger_fits, what_fits, rule_fits, kind_fits, rule_count}
+use Rattle.ground_types.specs.Sound.{IsSound, trigger_fits, what_fits, rule_fits, kind_fits}
+use Rattle.ground_types.specs.Sound.{rule_count}
 use Rattle.ground_types.specs.Touched.{touched, rules_of, evaluations_of_unit}
 use Rattle.ground_types.specs.Truth.{Table, happens}
 use Rattle.ground_types.specs.Windows.{left, right}
@@ -33,7 +37,8 @@ use Rattle.delay_revise.proofs.Alike.{points_alike}
 use Rattle.delay_revise.proofs.KindRows.{DoesFit, fits_simple, all_left, all_right}
 use Rattle.delay_revise.proofs.LookUp.{trigger_found}
 
-kept_by : (b : Bool) (x : ℕ) (xs : List ℕ) (most : ℕ) → length xs ≤ most → length (cond b (x ∷ xs) xs) ≤ suc most
+kept_by : (b : Bool) (x : ℕ) (xs : List ℕ) (most : ℕ) → length xs ≤ most
+    → length (cond b (x ∷ xs) xs) ≤ suc most
 kept_by true x xs most le = omega (arith, le)
 kept_by false x xs most le = omega (arith, le)
 
@@ -43,10 +48,15 @@ filter_few test (x ∷ xs) = kept_by (test x) x (filter test xs) (length xs) (fi
 
 -- a window has as many points as it is long
 pub points_few : (test : ℕ → Bool) (w q : ℕ) → length (points test w q) ≤ q - w
-points_few test w q = omega (arith, filter_few test (range_with_len (w + 1) (q - w)), length-range_with_len (w + 1) (q - w))
+points_few test w q = omega (
+  arith,
+  filter_few test (range_with_len (w + 1) (q - w)),
+  length-range_with_len (w + 1) (q - w),
+)
 
 -- for each rule at most as many as the window is long
-pub evaluations_few : (table : Table) (rules : List Rule) (w q most : ℕ) → q - w ≤ most → evaluations_of table rules w q ≤ length rules * most
+pub evaluations_few : (table : Table) (rules : List Rule) (w q most : ℕ) → q - w ≤ most
+    → evaluations_of table rules w q ≤ length rules * most
 evaluations_few table [] w q most le = omega arith
 evaluations_few table (rule ∷ rest) w q most le =
     omega (
@@ -57,7 +67,8 @@ evaluations_few table (rule ∷ rest) w q most le =
     )
 
 -- the evaluations of some rules, and of a simple fluent, fit
-pub rules_few : (table : Table) (kind : UnitKind) (rules xs : List Rule) (w q m : ℕ) → kind ≡ Derived rules → rule_count kind ≤ 262144 → xs ≡ rules →
+pub rules_few : (table : Table) (kind : UnitKind) (rules xs : List Rule) (w q m : ℕ)
+    → kind ≡ Derived rules → rule_count kind ≤ 262144 → xs ≡ rules →
     q < 2 ^ 64 → m ≡ evaluations_of table xs w q → m ≤ 262144 * 2 ^ 64
 rules_few table kind rules xs w q m kind_is few same end is =
     omega (
@@ -67,10 +78,13 @@ rules_few table kind rules xs w q m kind_is few same end is =
       evaluations_few table xs w q (2 ^ 64) (omega (arith, end)),
     )
 
-pub simple_few : (table : Table) (kind : UnitKind) (initially : Option ℕ) (initiate terminate xs ys : List Rule) (w q m n : ℕ) →
-    kind ≡ Simple initially initiate terminate → rule_count kind ≤ 262144 → xs ≡ initiate → ys ≡ terminate → q < 2 ^ 64 →
+pub simple_few : (table : Table) (kind : UnitKind) (initially : Option ℕ)
+    (initiate terminate xs ys : List Rule) (w q m n : ℕ) →
+    kind ≡ Simple initially initiate terminate → rule_count kind ≤ 262144 → xs ≡ initiate
+    → ys ≡ terminate → q < 2 ^ 64 →
     m ≡ evaluations_of table xs w q → n ≡ evaluations_of table ys w q → m + n ≤ 262144 * 2 ^ 64
-simple_few table kind initially initiate terminate xs ys w q m n kind_is few first second end one two =
+simple_few table kind initially initiate terminate xs ys w q m n kind_is few first second end one
+    two =
     omega (
       arith,
       ap rule_count kind_is,
@@ -80,52 +94,70 @@ simple_few table kind initially initiate terminate xs ys w q m n kind_is few fir
       evaluations_few table ys w q (2 ^ 64) (omega (arith, end)),
     )
 
-fits_trigger : (program : Program) (count : ℕ) (rule : Rule) → rule_fits program count rule ≡ true → trigger_fits program rule.trigger ≡ true
+fits_trigger : (program : Program) (count : ℕ) (rule : Rule) → rule_fits program count rule ≡ true
+    → trigger_fits program rule.trigger ≡ true
 fits_trigger program count rule fits =
     and_right (nat_lt rule.value count) (trigger_fits program rule.trigger)
-    (and_left (nat_lt rule.value count && trigger_fits program rule.trigger) (list_all (λ cond. what_fits program cond.what) rule.conds) fits)
+    (and_left (nat_lt rule.value count && trigger_fits program rule.trigger)
+    (list_all (λ cond. what_fits program cond.what) rule.conds) fits)
 
-module _ (program : Program) (history : List Entry) (store : Events) (below : List ℕ) (rows : List UnitRows)
-    (sound : IsSound program) (stand : Stand program store (before_seal history 0)) (worked : IsWorked program store below rows) where
+module _ (program : Program) (history : List Entry) (store : Events) (below : List ℕ)
+    (rows : List UnitRows)
+    (sound : IsSound program) (stand : Stand program store (before_seal history 0))
+    (worked : IsWorked program store below rows) where
   -- the touched points of a rule are those at which its trigger happens over the rows
-  rule_counted : (count : ℕ) (rule : Rule) → rule_fits program count rule ≡ true → list_all (contains below) (units_of_rule rule) ≡ true →
-      points (happens (known rows store) rule.trigger) (left program.plan 0) (right program.plan 0) ≡ touched program history 0 rule
+  rule_counted : (count : ℕ) (rule : Rule) → rule_fits program count rule ≡ true
+      → list_all (contains below) (units_of_rule rule) ≡ true →
+      points (happens (known rows store) rule.trigger) (left program.plan 0) (right program.plan 0)
+      ≡ touched program history 0 rule
   rule_counted count rule fits done =
       let table : Table = query_table program history 0 in
-      points_alike (happens (known rows store) rule.trigger) (λ t. happens table rule.trigger t && true) (left program.plan 0) (right program.plan 0)
-      (λ t above within. trigger_found program history store below rows sound stand worked rule.trigger t
+      points_alike (happens (known rows store) rule.trigger) (λ t. happens table rule.trigger t
+      && true) (left program.plan 0) (right program.plan 0)
+      (λ t above within. trigger_found program history store below rows sound stand worked
+      rule.trigger t
       (fits_trigger program count rule fits)
-      (all_left (contains below) (units_of_trigger rule.trigger) (flat_map (λ cond. units_of_what cond.what) rule.conds) done) above within
+      (all_left (contains below) (units_of_trigger rule.trigger)
+      (flat_map (λ cond. units_of_what cond.what) rule.conds) done) above within
       ∙ sym (and-true (happens table rule.trigger t)))
 
-  rules_counted : (count : ℕ) (rules : List Rule) → list_all (rule_fits program count) rules ≡ true →
+  rules_counted : (count : ℕ) (rules : List Rule) → list_all (rule_fits program count) rules ≡ true
+      →
       list_all (contains below) (flat_map units_of_rule rules) ≡ true →
       evaluations_of (known rows store) rules (left program.plan 0) (right program.plan 0)
       ≡ sum_by (λ rule. length (touched program history 0 rule)) rules
   rules_counted count [] fit done = refl
   rules_counted count (rule ∷ rest) fit done =
-      sum_by-cons (λ (rule : Rule). length (points (happens (known rows store) rule.trigger) (left program.plan 0) (right program.plan 0))) rule rest
+      sum_by-cons (λ (rule : Rule). length (points (happens (known rows store) rule.trigger)
+      (left program.plan 0) (right program.plan 0))) rule rest
       ∙ ap₂ (λ (m n : ℕ). m + n)
-      (ap (λ (l : List ℕ). length l) (rule_counted count rule (and_left (rule_fits program count rule) (list_all (rule_fits program count) rest) fit)
+      (ap (λ (l : List ℕ). length l) (rule_counted count rule
+      (and_left (rule_fits program count rule) (list_all (rule_fits program count) rest) fit)
       (all_left (contains below) (units_of_rule rule) (flat_map units_of_rule rest) done)))
-      (rules_counted count rest (and_right (rule_fits program count rule) (list_all (rule_fits program count) rest) fit)
+      (rules_counted count rest (and_right (rule_fits program count rule)
+      (list_all (rule_fits program count) rest) fit)
       (all_right (contains below) (units_of_rule rule) (flat_map units_of_rule rest) done))
       ∙ sym (sum_by-cons (λ (rule : Rule). length (touched program history 0 rule)) rule rest)
 
-  kind_counted : (count : ℕ) (kind : UnitKind) → kind_fits program count kind ≡ true → list_all (contains below) (units_of_kind kind) ≡ true →
+  kind_counted : (count : ℕ) (kind : UnitKind) → kind_fits program count kind ≡ true
+      → list_all (contains below) (units_of_kind kind) ≡ true →
       evaluations_over (known rows store) kind (left program.plan 0) (right program.plan 0)
       ≡ sum_by (λ rule. length (touched program history 0 rule)) (rules_of kind)
   kind_counted count (Simple initially initiate terminate) fits done =
-      let fit : DoesFit program count initiate terminate = fits_simple program count initially initiate terminate fits in
+      let fit : DoesFit program count initiate terminate = fits_simple program count initially
+      initiate terminate fits in
       rules_counted count (initiate ++ terminate)
-      (list_all-append (rule_fits program count) initiate terminate ∙ ap₂ (λ (a b : Bool). a && b) fit.inits fit.terms)
+      (list_all-append (rule_fits program count) initiate terminate ∙ ap₂ (λ (a b : Bool). a && b)
+      fit.inits fit.terms)
       (ap (list_all (contains below)) (flat_map-append units_of_rule initiate terminate) ∙ done)
   kind_counted count (Static exprs) fits done = refl
   kind_counted count (Derived rules) fits done = rules_counted 1 rules fits done
 
   -- the evaluations of a unit over the rows of the units that it names are those of query 0
-  pub evaluations_counted : (number count : ℕ) → kind_fits program count (kind_of program number) ≡ true →
+  pub evaluations_counted : (number count : ℕ) → kind_fits program count (kind_of program number)
+      ≡ true →
       list_all (contains below) (units_of_kind (kind_of program number)) ≡ true →
-      evaluations_over (known rows store) (kind_of program number) (left program.plan 0) (right program.plan 0)
+      evaluations_over (known rows store) (kind_of program number) (left program.plan 0)
+      (right program.plan 0)
       ≡ evaluations_of_unit program history 0 number
   evaluations_counted number count fits done = kind_counted count (kind_of program number) fits done

@@ -1,5 +1,7 @@
 -- The rows of a unit follow from the points of its rules.
-use Rattle.std.proofs.Common.{◌≡◌, inl, ℕ, zero, suc, ◌+◌, ◌<◌, ◌≤◌, Bool, true, false, ◌&&◌, ◌||◌, ltb, leb, List, [], ◌∷◌, ◌++◌, map, length, Option, Some, None, refl, sym, ◌∙◌, ap, ap₂, arith, subst}
+use Rattle.std.proofs.Common.{◌≡◌, inl, ℕ, zero, suc, ◌+◌, ◌<◌, ◌≤◌, Bool, true, false, ◌&&◌, ◌||◌}
+use Rattle.std.proofs.Common.{ltb, leb, List, [], ◌∷◌, ◌++◌, map, length, Option, Some, None, refl}
+use Rattle.std.proofs.Common.{sym, ◌∙◌, ap, ap₂, arith, subst}
 use Rattle.std.specs.List.{list_any, list_all, range_with_len, AllByRecursion}
 use Rattle.std.proofs.Math.Bool.{and-false}
 use Rattle.std.proofs.lemmas.Bool.Decides.{nat_tests}
@@ -29,81 +31,114 @@ initial_below : (values : ℕ) (o : Option ℕ) → initial_fits values o ≡ tr
 initial_below values None is = tt
 initial_below values (Some v) is = grind (arith, nat_tests)
 
-values_below : (program : Program) (values : ℕ) (rules : List Rule) → list_all (rule_fits program values) rules ≡ true →
+values_below : (program : Program) (values : ℕ) (rules : List Rule)
+    → list_all (rule_fits program values) rules ≡ true →
     list_all (λ rule. ltb rule.value values) rules ≡ true
 values_below program values [] is = refl
 values_below program values (rule ∷ rest) is =
-    let here : rule_fits program values rule ≡ true = and_left (rule_fits program values rule) (list_all (rule_fits program values) rest) is in
+    let here : rule_fits program values rule ≡ true = and_left (rule_fits program values rule)
+    (list_all (rule_fits program values) rest) is in
     ap₂ (λ (a b : Bool). a && b)
     (and_left (ltb rule.value values) (trigger_fits program rule.trigger)
-    (and_left (ltb rule.value values && trigger_fits program rule.trigger) (list_all (λ cond. what_fits program cond.what) rule.conds) here))
-    (values_below program values rest (and_right (rule_fits program values rule) (list_all (rule_fits program values) rest) is))
+    (and_left (ltb rule.value values && trigger_fits program rule.trigger)
+    (list_all (λ cond. what_fits program cond.what) rule.conds) here))
+    (values_below program values rest (and_right (rule_fits program values rule)
+    (list_all (rule_fits program values) rest) is))
 
-all_left : (P : Rule → Type 0) (xs ys : List Rule) → AllByRecursion P (xs ++ ys) → AllByRecursion P xs
+all_left : (P : Rule → Type 0) (xs ys : List Rule) → AllByRecursion P (xs ++ ys)
+    → AllByRecursion P xs
 all_left P [] ys all = tt
 all_left P (x ∷ xs) ys all = (all.0, all_left P xs ys all.1)
 
-all_right : (P : Rule → Type 0) (xs ys : List Rule) → AllByRecursion P (xs ++ ys) → AllByRecursion P ys
+all_right : (P : Rule → Type 0) (xs ys : List Rule) → AllByRecursion P (xs ++ ys)
+    → AllByRecursion P ys
 all_right P [] ys all = all
 all_right P (x ∷ xs) ys all = all_right P xs ys all.1
 
 -- what is known of a simple fluent with so many values, all of whose rules are so
-pub record IsSimple (P : Rule → Type 0) (values : ℕ) (initially : Option ℕ) (initiate terminate : List Rule) : Type 0 where
+pub record IsSimple (P : Rule → Type 0) (values : ℕ) (initially : Option ℕ)
+    (initiate terminate : List Rule) : Type 0 where
   pub opens : IsValueBelow values initially
   pub inits : list_all (λ rule. ltb rule.value values) initiate ≡ true
   pub terms : list_all (λ rule. ltb rule.value values) terminate ≡ true
   pub each_init : AllByRecursion P initiate
   pub each_term : AllByRecursion P terminate
 
-simple_by : (program : Program) (P : Rule → Type 0) (values : ℕ) (initially : Option ℕ) (initiate terminate : List Rule) →
-    kind_fits program values (unit_kind.Simple initially initiate terminate) ≡ true → AllByRecursion P (initiate ++ terminate) →
+simple_by : (program : Program) (P : Rule → Type 0) (values : ℕ) (initially : Option ℕ)
+    (initiate terminate : List Rule) →
+    kind_fits program values (unit_kind.Simple initially initiate terminate) ≡ true
+    → AllByRecursion P (initiate ++ terminate) →
     IsSimple P values initially initiate terminate
 simple_by program P values initially initiate terminate fits all =
-    let some : (initial_fits values initially && list_all (rule_fits program values) initiate) ≡ true =
-    and_left (initial_fits values initially && list_all (rule_fits program values) initiate) (list_all (rule_fits program values) terminate) fits in
+    let some : (initial_fits values initially && list_all (rule_fits program values) initiate)
+    ≡ true =
+    and_left (initial_fits values initially && list_all (rule_fits program values) initiate)
+    (list_all (rule_fits program values) terminate) fits in
     record {
-      opens = initial_below values initially (and_left (initial_fits values initially) (list_all (rule_fits program values) initiate) some);
-      inits = values_below program values initiate (and_right (initial_fits values initially) (list_all (rule_fits program values) initiate) some);
+      opens = initial_below values initially (and_left (initial_fits values initially)
+          (list_all (rule_fits program values) initiate) some);
+      inits = values_below program values initiate (and_right (initial_fits values initially)
+          (list_all (rule_fits program values) initiate) some);
       terms = values_below program values terminate
-          (and_right (initial_fits values initially && list_all (rule_fits program values) initiate) (list_all (rule_fits program values) terminate) fits);
+          (and_right (initial_fits values initially && list_all (rule_fits program values)
+          initiate) (list_all (rule_fits program values) terminate) fits);
       each_init = all_left P initiate terminate all;
       each_term = all_right P initiate terminate all;
     }
 
-pub simple_of : (program : Program) (P : Rule → Type 0) (values count : ℕ) (kind : UnitKind) (initially : Option ℕ) (initiate terminate : List Rule) →
-    kind_fits program values kind ≡ true → AllByRecursion P (rules_of kind) → kind ≡ unit_kind.Simple initially initiate terminate → count ≡ values →
+pub simple_of : (program : Program) (P : Rule → Type 0) (values count : ℕ) (kind : UnitKind)
+    (initially : Option ℕ) (initiate terminate : List Rule) →
+    kind_fits program values kind ≡ true → AllByRecursion P (rules_of kind)
+    → kind ≡ unit_kind.Simple initially initiate terminate → count ≡ values →
     IsSimple P count initially initiate terminate
 simple_of program P values count kind initially initiate terminate fits all is many =
     subst (λ (n : ℕ). IsSimple P n initially initiate terminate) (sym many)
-    (simple_by program P values initially initiate terminate (ap (kind_fits program values) (sym is) ∙ fits)
+    (simple_by program P values initially initiate terminate (ap (kind_fits program values)
+    (sym is) ∙ fits)
     (subst (λ (k : UnitKind). AllByRecursion P (rules_of k)) is all))
 
 -- ---- the rows of a simple fluent
 
-each_row : (f g : ℕ → List (ℕ × ℕ)) (a count : ℕ) → ((v : ℕ) → f v ≡ g v) → map f (range_with_len a count) ≡ map g (range_with_len a count)
+each_row : (f g : ℕ → List (ℕ × ℕ)) (a count : ℕ) → ((v : ℕ) → f v ≡ g v)
+    → map f (range_with_len a count) ≡ map g (range_with_len a count)
 each_row f g a zero same = refl
-each_row f g a (suc n) same = ap₂ (λ (x : List (ℕ × ℕ)) (xs : List (List (ℕ × ℕ))). x ∷ xs) (same a) (each_row f g (a + 1) n same)
+each_row f g a (suc n) same = ap₂ (λ (x : List (ℕ × ℕ)) (xs : List (List (ℕ × ℕ))). x ∷ xs)
+    (same a) (each_row f g (a + 1) n same)
 
-simple_rows : (table : Table) (initially : Option ℕ) (initiate terminate : List Rule) (inits terms : List (List ℕ)) (count w q : ℕ) → length inits ≡ count →
-    ((v t : ℕ) → w < t → t ≤ q → contains (values_with 0 inits t) v ≡ contains (values_of table initiate t) v) →
-    ((v t : ℕ) → w < t → t ≤ q → contains (values_with 0 terms t) v ≡ contains (values_of table terminate t) v) →
-    fluent_rows (rows_of initially inits terms w q) ≡ rows_over table initially count (unit_kind.Simple initially initiate terminate) w q
+simple_rows : (table : Table) (initially : Option ℕ) (initiate terminate : List Rule)
+    (inits terms : List (List ℕ)) (count w q : ℕ) → length inits ≡ count →
+    ((v t : ℕ) → w < t → t ≤ q → contains (values_with 0 inits t) v
+    ≡ contains (values_of table initiate t) v) →
+    ((v t : ℕ) → w < t → t ≤ q → contains (values_with 0 terms t) v
+    ≡ contains (values_of table terminate t) v) →
+    fluent_rows (rows_of initially inits terms w q) ≡ rows_over table initially count
+    (unit_kind.Simple initially initiate terminate) w q
 simple_rows table initially initiate terminate inits terms count w q many ins outs =
     ap fluent_rows
     (each_row (λ v. row (has_value initially inits terms w v) w q)
-    (λ v. row (λ t. is_value (value_of_unit table initially (unit_kind.Simple initially initiate terminate) w t) v) w q) 0 (length inits)
+    (λ v. row (λ t. is_value (value_of_unit table initially (unit_kind.Simple initially initiate
+    terminate) w t) v) w q) 0 (length inits)
     (λ v. row_alike (has_value initially inits terms w v)
-    (λ t. is_value (value_of_unit table initially (unit_kind.Simple initially initiate terminate) w t) v) w q
+    (λ t. is_value (value_of_unit table initially (unit_kind.Simple initially initiate terminate) w
+    t) v) w q
     (λ t low high. ap (λ (o : Option ℕ). is_value o v)
-    (value_alike initially (values_with 0 inits) (values_of table initiate) (values_with 0 terms) (values_of table terminate) w q t low high ins outs)))
-    ∙ ap (λ (n : ℕ). map (λ v. row (λ t. is_value (value_of_unit table initially (unit_kind.Simple initially initiate terminate) w t) v) w q) (range_with_len 0 n)) many)
+    (value_alike initially (values_with 0 inits) (values_of table initiate) (values_with 0 terms)
+    (values_of table terminate) w q t low high ins outs)))
+    ∙ ap (λ (n : ℕ). map (λ v. row (λ t.
+    is_value (value_of_unit table initially (unit_kind.Simple initially initiate terminate) w t)
+    v) w q) (range_with_len 0 n)) many)
 
-pub fluent_rows_are : (table : Table) (kind : UnitKind) (initially : Option ℕ) (initiate terminate : List Rule) (inits terms : List (List ℕ)) (values count w q : ℕ) →
+pub fluent_rows_are : (table : Table) (kind : UnitKind) (initially : Option ℕ)
+    (initiate terminate : List Rule) (inits terms : List (List ℕ)) (values count w q : ℕ) →
     kind ≡ unit_kind.Simple initially initiate terminate → count ≡ values → length inits ≡ count →
-    ((v t : ℕ) → w < t → t ≤ q → contains (values_with 0 inits t) v ≡ contains (values_of table initiate t) v) →
-    ((v t : ℕ) → w < t → t ≤ q → contains (values_with 0 terms t) v ≡ contains (values_of table terminate t) v) →
-    fluent_rows (rows_of initially inits terms w q) ≡ rows_over table (initial_of kind) values kind w q
-fluent_rows_are table kind initially initiate terminate inits terms values count w q is many have ins outs =
+    ((v t : ℕ) → w < t → t ≤ q → contains (values_with 0 inits t) v
+    ≡ contains (values_of table initiate t) v) →
+    ((v t : ℕ) → w < t → t ≤ q → contains (values_with 0 terms t) v
+    ≡ contains (values_of table terminate t) v) →
+    fluent_rows (rows_of initially inits terms w q) ≡ rows_over table (initial_of kind) values kind
+    w q
+fluent_rows_are table kind initially initiate terminate inits terms values count w q is many have
+    ins outs =
     simple_rows table initially initiate terminate inits terms values w q (have ∙ many) ins outs
     ∙ ap (λ (k : UnitKind). rows_over table (initial_of k) values k w q) (sym is)
 
@@ -118,16 +153,22 @@ some_points : (table : Table) (rules : List Rule) (w q t : ℕ) → w ≤ q →
     ≡ (ltb w t && leb t q && list_any (λ rule. body_holds table rule t) rules)
 some_points table [] w q t le = sym (and-false (ltb w t && leb t q))
 some_points table (rule ∷ rest) w q t le =
-    ap₂ (λ (a b : Bool). a || b) ((points_are (body_holds table rule) w q le).each t) (some_points table rest w q t le)
-    ∙ inside_or (ltb w t && leb t q) (body_holds table rule t) (list_any (λ rule. body_holds table rule t) rest)
+    ap₂ (λ (a b : Bool). a || b) ((points_are (body_holds table rule) w q le).each t)
+    (some_points table rest w q t le)
+    ∙ inside_or (ltb w t && leb t q) (body_holds table rule t)
+    (list_any (λ rule. body_holds table rule t) rest)
 
-pub event_row_is : (table : Table) (kind : UnitKind) (rules given : List Rule) (found : List ℕ) (values w q : ℕ) → w < q →
+pub event_row_is : (table : Table) (kind : UnitKind) (rules given : List Rule) (found : List ℕ)
+    (values w q : ℕ) → w < q →
     kind ≡ unit_kind.Derived rules → given ≡ rules → IsRising found →
-    ((t : ℕ) → contains found t ≡ list_any (λ rule. contains (points (body_holds table rule) w q) t) given) →
+    ((t : ℕ) → contains found t ≡ list_any (λ rule. contains (points (body_holds table rule) w q)
+    t) given) →
     event_row found ≡ rows_over table (initial_of kind) values kind w q
 event_row_is table kind rules given found values w q lt is same rising each =
     let le : w ≤ q = omega arith in
     ap event_row
-    (points_of_window (λ t. list_any (λ rule. body_holds table rule t) rules) w q found (inl le) rising
-    (λ t. each t ∙ ap (list_any (λ rule. contains (points (body_holds table rule) w q) t)) same ∙ some_points table rules w q t le))
+    (points_of_window (λ t. list_any (λ rule. body_holds table rule t) rules) w q found (inl le)
+    rising
+    (λ t. each t ∙ ap (list_any (λ rule. contains (points (body_holds table rule) w q) t)) same
+    ∙ some_points table rules w q t le))
     ∙ ap (λ (k : UnitKind). rows_over table (initial_of k) values k w q) (sym is)

@@ -16,7 +16,8 @@ abbrev pub published : UnitRows → PublishedRows
 published (Fluent rows) = fluent_rows (map pairs rows)
 published (Event points) = event_row points
 
--- the events of the program that stand after a history are those of the store, at each point of the window of query 0
+-- the events of the program that stand after a history are those of the store, at each point of the
+-- window of query 0
 abbrev pub Stand : Program → Events → List Entry → Type 0
 Stand program store history =
     (event t : ℕ) → event < program.events → left program.plan 0 < t → t ≤ right program.plan 0 →

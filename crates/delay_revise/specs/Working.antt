@@ -1,5 +1,7 @@
--- What a unit comes to over a table of what its rules name, and how far the rows of a program are computed.
-use Rattle.std.specs.Prelude.{◌≡◌, ◌<◌, ◌≤◌, ℕ, ◌+◌, Bool, true, false, List, map, length, slice_get, sum_by, Option}
+-- What a unit comes to over a table of what its rules name, and how far the rows of a program are
+-- computed.
+use Rattle.std.specs.Prelude.{◌≡◌, ◌<◌, ◌≤◌, ℕ, ◌+◌, Bool, true, false, List, map, length}
+use Rattle.std.specs.Prelude.{slice_get, sum_by, Option}
 use Rattle.std.specs.List.{range_with_len}
 use Rattle.ground_types.specs.Truth.{Table, is_value, happens}
 use Rattle.ground_types.specs.Recognition.{value_of_unit, static_of_unit, derived_of_unit}
@@ -17,23 +19,30 @@ abbrev pub is_static : UnitKind → Bool
 is_static (unit_kind.Static exprs) = true
 is_static kind = false
 
--- the rows of a unit with so many values over a table, from the value with which it opens the window (w, q]
+-- the rows of a unit with so many values over a table, from the value with which it opens the
+-- window (w, q]
 abbrev pub rows_over : Table → Option ℕ → ℕ → UnitKind → ℕ → ℕ → PublishedRows
 rows_over table opening count (unit_kind.Simple initially initiate terminate) w q =
     fluent_rows
-    (map (λ v. row (λ t. is_value (value_of_unit table opening (unit_kind.Simple initially initiate terminate) w t) v) w q)
+    (map (λ v. row (λ t. is_value (value_of_unit table opening (unit_kind.Simple initially initiate
+    terminate) w t) v) w q)
     (range_with_len 0 count))
 rows_over table opening count (unit_kind.Static exprs) w q =
-    fluent_rows (map (λ v. row (static_of_unit table (unit_kind.Static exprs) v) w q) (range_with_len 0 count))
-rows_over table opening count (unit_kind.Derived rules) w q = event_row (points (derived_of_unit table (unit_kind.Derived rules)) w q)
+    fluent_rows (map (λ v. row (static_of_unit table (unit_kind.Static exprs) v) w q)
+    (range_with_len 0 count))
+rows_over table opening count (unit_kind.Derived rules) w q =
+    event_row (points (derived_of_unit table (unit_kind.Derived rules)) w q)
 
--- at how many points the bodies of rules have to be looked at for query 0: all at which their triggers occur
+-- at how many points the bodies of rules have to be looked at for query 0: all at which their
+-- triggers occur
 abbrev pub evaluations_of : Table → List Rule → ℕ → ℕ → ℕ
-evaluations_of table rules w q = sum_by (λ rule. length (points (happens table rule.trigger) w q)) rules
+evaluations_of table rules w q = sum_by (λ rule. length (points (happens table rule.trigger) w q))
+    rules
 
 abbrev pub evaluations_over : Table → UnitKind → ℕ → ℕ → ℕ
 evaluations_over table kind w q = evaluations_of table (rules_of kind) w q
 
 -- the rows of fluents have points among the value points of the window (w, q] alone
 abbrev pub IsInWindow : ℕ → ℕ → List UnitRows → Type 0
-IsInWindow w q rows = (unit v t : ℕ) → fluent_has (slice_get rows unit) v t ≡ true → (w < t) × (t ≤ q + 1)
+IsInWindow w q rows = (unit v t : ℕ) → fluent_has (slice_get rows unit) v t ≡ true → (w < t)
+    × (t ≤ q + 1)

@@ -1,5 +1,6 @@
 // What is recognised at the first seal.
-ghost use Rattle.std.specs.Prelude.{◌≡◌, ◌≤◌, ◌<◌, ◌+◌, ◌-◌, ◌*◌, ◌^◌, ◌&&◌, ◌==◌, not, nat_lt, true, ℕ, List, [], ◌∷◌, map, length, is_none, IfOk, OnErr};
+ghost use Rattle.std.specs.Prelude.{◌≡◌, ◌≤◌, ◌<◌, ◌+◌, ◌-◌, ◌*◌, ◌^◌, ◌&&◌, ◌==◌, not, nat_lt};
+ghost use Rattle.std.specs.Prelude.{true, ℕ, List, [], ◌∷◌, map, length, is_none, IfOk, OnErr};
 ghost use Rattle.std.specs.List.{list_all, AllByRecursion};
 ghost use Rattle.ground_types.specs.History.{before_seal};
 ghost use Rattle.ground_types.specs.Publication.{publication, initial_of};
@@ -45,7 +46,8 @@ fn evaluations_of_unit(
     requires old_rows { AllByRecursion (HasRows cache.now.before) (rules_of kind.now) }
     requires few { rule_count kind.now ≤ 262144 }
     requires end { q < 2 ^ 64 - 1 }
-    ensures count { IfOk result (λ count. count ≡ evaluations_over (known cache.now.rows store.now) kind.now w q) }
+    ensures count { IfOk result (λ count. count ≡ evaluations_over (known cache.now.rows store.now)
+        kind.now w q) }
     ensures most { IfOk result (λ count. count ≤ 262144 * 2 ^ 64) }
 {
     match kind {
@@ -63,10 +65,11 @@ fn evaluations_of_unit(
     }
 }
 
-// Whether a unit has no row for want of points: no body has to be looked at, and it has no value at first. Of expressions this
-// says nothing.
+// Whether a unit has no row for want of points: no body has to be looked at, and it has no value at
+// first. Of expressions this says nothing.
 fn is_idle(kind: &UnitKind, evaluations: u128) -> bool
-    ensures { result ≡ (not (is_static kind.now) && (evaluations == 0) && is_none (initial_of kind.now)) }
+    ensures { result ≡ (not (is_static kind.now) && (evaluations == 0)
+        && is_none (initial_of kind.now)) }
 {
     match kind {
         UnitKind::Simple { initially, .. } => evaluations == 0 && initially.is_none(),
@@ -75,7 +78,8 @@ fn is_idle(kind: &UnitKind, evaluations: u128) -> bool
     }
 }
 
-// Works one unit, and says how many bodies had to be looked at. A unit without any row keeps the empty ones of the cache.
+// Works one unit, and says how many bodies had to be looked at. A unit without any row keeps the
+// empty ones of the cache.
 fn work_unit<L: Ledger>(
     alloc: Global,
     program: &Program,
@@ -87,13 +91,19 @@ fn work_unit<L: Ledger>(
     requires sound { IsSound program.now }
     requires known { number < length program.now.units }
     requires size { length cache.old.rows ≡ length program.now.units }
-    requires inside { IsInWindow (left program.now.plan 0) (right program.now.plan 0) cache.old.rows }
+    requires inside { IsInWindow (left program.now.plan 0) (right program.now.plan 0)
+        cache.old.rows }
     requires old_size { length cache.old.before ≡ length program.now.units }
-    ensures works { IfOk result (λ count. Works program.now store.now (number ∷ []) cache.old.rows cache.new.rows count) }
+    ensures works { IfOk result (λ count. Works program.now store.now (number ∷ []) cache.old.rows
+        cache.new.rows count) }
     ensures most { IfOk result (λ count. count ≤ 262144 * 2 ^ 64) }
-    ensures steps { IfOk result (λ count. steps.new ≡ record { count = steps.old.count + count; out = steps.old.out }) }
+    ensures steps { IfOk result (λ count. steps.new ≡ record {
+      count = steps.old.count + count;
+      out = steps.old.out;
+    }) }
     ensures refused { OnErr result (steps.new.count
-        ≤ steps.old.count + evaluations_over (known cache.old.rows store.now) (kind_of program.now number) (left program.now.plan 0) (right program.now.plan 0)) }
+        ≤ steps.old.count + evaluations_over (known cache.old.rows store.now)
+        (kind_of program.now number) (left program.now.plan 0) (right program.now.plan 0)) }
     ensures before { cache.new.before ≡ cache.old.before }
     ensures parts { steps.new.out ≡ steps.old.out }
 {
@@ -122,12 +132,18 @@ fn work_layer<L: Ledger>(
     requires units { list_all (λ unit. nat_lt unit (length program.now.units)) layer.now ≡ true }
     requires few { length layer.now ≤ 65536 }
     requires size { length cache.old.rows ≡ length program.now.units }
-    requires inside { IsInWindow (left program.now.plan 0) (right program.now.plan 0) cache.old.rows }
+    requires inside { IsInWindow (left program.now.plan 0) (right program.now.plan 0)
+        cache.old.rows }
     requires old_size { length cache.old.before ≡ length program.now.units }
-    ensures works { IfOk result (λ count. Works program.now store.now layer.now cache.old.rows cache.new.rows count) }
+    ensures works { IfOk result (λ count. Works program.now store.now layer.now cache.old.rows
+        cache.new.rows count) }
     ensures most { IfOk result (λ count. count ≤ length layer.now * (262144 * 2 ^ 64)) }
-    ensures steps { IfOk result (λ count. steps.new ≡ record { count = steps.old.count + count; out = steps.old.out }) }
-    ensures refused { OnErr result (IsRefusedWithin program.now store.now layer.now cache.old.rows steps.old.count steps.new.count) }
+    ensures steps { IfOk result (λ count. steps.new ≡ record {
+      count = steps.old.count + count;
+      out = steps.old.out;
+    }) }
+    ensures refused { OnErr result (IsRefusedWithin program.now store.now layer.now cache.old.rows
+        steps.old.count steps.new.count) }
     ensures before { cache.new.before ≡ cache.old.before }
     ensures parts { steps.new.out ≡ steps.old.out }
 {
@@ -138,9 +154,9 @@ fn work_layer<L: Ledger>(
     Ok(count)
 }
 
-/// What is recognised at the first seal of a history, from the events that stand there. The program has to be sound. Each unit
-/// is worked once, after those that its rules or expressions name. Ok adds a step for each evaluation, a refusal no more than those;
-/// expressions take none.
+/// What is recognised at the first seal of a history, from the events that stand there. The program
+/// has to be sound. Each unit is worked once, after those that its rules or expressions name. Ok
+/// adds a step for each evaluation, a refusal no more than those; expressions take none.
 pub fn recognise_first<L: Ledger>(
     alloc: Global,
     program: &Program,
@@ -148,12 +164,18 @@ pub fn recognise_first<L: Ledger>(
     steps: &mut Steps<L>,
 ) -> Result<Recognised, OutOfMemory>
     requires sound { IsSound program.now }
-    ensures rows { IfOk result (λ r. (history : List Entry) → Stand program.now store.now (before_seal history 0) →
+    ensures rows { IfOk result (λ r. (history : List Entry)
+        → Stand program.now store.now (before_seal history 0) →
         map published r.rows ≡ (publication program.now history 0).rows) }
-    ensures evaluations { IfOk result (λ r. (history : List Entry) → Stand program.now store.now (before_seal history 0) →
+    ensures evaluations { IfOk result (λ r. (history : List Entry)
+        → Stand program.now store.now (before_seal history 0) →
         r.evaluations ≡ evaluations program.now history 0) }
-    ensures steps { IfOk result (λ r. steps.new ≡ record { count = steps.old.count + r.evaluations; out = steps.old.out }) }
-    ensures refused { OnErr result ((history : List Entry) → Stand program.now store.now (before_seal history 0) →
+    ensures steps { IfOk result (λ r. steps.new ≡ record {
+      count = steps.old.count + r.evaluations;
+      out = steps.old.out;
+    }) }
+    ensures refused { OnErr result ((history : List Entry)
+        → Stand program.now store.now (before_seal history 0) →
         steps.new.count ≤ steps.old.count + evaluations program.now history 0) }
     ensures parts { steps.new.out ≡ steps.old.out }
 {

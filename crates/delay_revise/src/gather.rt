@@ -1,5 +1,6 @@
 // The points at which the bodies of rules are true.
-ghost use Rattle.std.specs.Prelude.{◌≡◌, ◌≤◌, ◌<◌, ◌+◌, ◌-◌, ◌^◌, ◌==◌, ◌&&◌, ◌||◌, ℕ, [], nat_lt, true, length, replicate, slice_index_or, IfOk, OnOk, OnErr};
+ghost use Rattle.std.specs.Prelude.{◌≡◌, ◌≤◌, ◌<◌, ◌+◌, ◌-◌, ◌^◌, ◌==◌, ◌&&◌, ◌||◌, ℕ, [], nat_lt};
+ghost use Rattle.std.specs.Prelude.{true, length, replicate, slice_index_or, IfOk, OnOk, OnErr};
 ghost use Rattle.std.specs.List.{list_all, list_any, AllByRecursion};
 ghost use Rattle.ground_types.specs.Members.{contains};
 ghost use Rattle.ground_types.specs.Inertia.{values_with};
@@ -35,7 +36,8 @@ pub(crate) fn evaluations_of(
     requires old_rows { AllByRecursion (HasRows cache.now.before) rules.now }
     requires few { length rules.now ≤ 262144 }
     requires end { q < 2 ^ 64 - 1 }
-    ensures { IfOk result (λ count. count ≡ evaluations_of (known cache.now.rows store.now) rules.now w q) }
+    ensures { IfOk result (λ count. count ≡ evaluations_of (known cache.now.rows store.now)
+        rules.now w q) }
 {
     let mut count = 0;
     for rule in rules {
@@ -48,8 +50,8 @@ pub(crate) fn evaluations_of(
 // How much lists of points may take beside twice what they took when they were last joined.
 const ROOM: usize = 1024;
 
-// The points of rules of one unit or value, as lists. They are joined now and then, so that a point that many rules have is not
-// kept for each of them. Contracts see the lists.
+// The points of rules of one unit or value, as lists. They are joined now and then, so that a point
+// that many rules have is not kept for each of them. Contracts see the lists.
 #[derive(Drop)]
 struct Parts {
     lists: Vec<Points>,
@@ -82,14 +84,16 @@ impl Parts {
     // The points that some list has, each once.
     fn points(&self, alloc: Global) -> Result<Points, OutOfMemory>
         ensures rises { IfOk result (λ found. IsRising found) }
-        ensures points { IfOk result (λ found. (t : ℕ) → contains found t ≡ list_any (λ points. contains points t) self.now) }
+        ensures points { IfOk result (λ found. (t : ℕ) → contains found t
+            ≡ list_any (λ points. contains points t) self.now) }
     {
         derived_points(alloc, &self.lists)
     }
 
     // Makes one list of all.
     fn join(&mut self, alloc: Global) -> Result<(), OutOfMemory>
-        ensures { OnOk result ((t : ℕ) → list_any (λ points. contains points t) self.new ≡ list_any (λ points. contains points t) self.old) }
+        ensures { OnOk result ((t : ℕ) → list_any (λ points. contains points t) self.new
+            ≡ list_any (λ points. contains points t) self.old) }
     {
         let points = self.points(alloc)?;
         let size = points.as_slice().len().saturating_add(1);
@@ -114,8 +118,9 @@ impl Parts {
     }
 }
 
-/// The points of the window at which the body of some rule is true. The time is about that of sorting the points of all rules. The
-/// memory is within a constant factor of that of these points and of those of one rule, beside at most `ROOM`.
+/// The points of the window at which the body of some rule is true. The time is about that of
+/// sorting the points of all rules. The memory is within a constant factor of that of these points
+/// and of those of one rule, beside at most `ROOM`.
 pub(crate) fn points_of_rules<L: Ledger>(
     alloc: Global,
     rules: &[Rule],
@@ -129,12 +134,14 @@ pub(crate) fn points_of_rules<L: Ledger>(
     requires end { q < 2 ^ 64 - 1 }
     ensures rises { IfOk result (λ found. IsRising found) }
     ensures points { IfOk result (λ found. (t : ℕ) → contains found t
-        ≡ list_any (λ rule. contains (points (body_holds (known cache.now.rows store.now) rule) w q) t) rules.now) }
+        ≡ list_any (λ rule. contains (points (body_holds (known cache.now.rows store.now) rule) w
+        q) t) rules.now) }
     ensures steps { OnOk result (steps.new ≡ record {
       count = steps.old.count + evaluations_of (known cache.now.rows store.now) rules.now w q;
       out = steps.old.out;
     }) }
-    ensures most { OnErr result (steps.new.count ≤ steps.old.count + evaluations_of (known cache.now.rows store.now) rules.now w q) }
+    ensures most { OnErr result (steps.new.count ≤ steps.old.count + evaluations_of
+        (known cache.now.rows store.now) rules.now w q) }
     ensures parts { steps.new.out ≡ steps.old.out }
 {
     let none = Points::new(alloc);
@@ -174,12 +181,15 @@ fn parts_by_value<L: Ledger>(
     ensures count { IfOk result (λ parts. length parts.items ≡ count) }
     ensures points { IfOk result (λ parts. (v t : ℕ) →
         list_any (λ points. contains points t) (slice_index_or parts.items v [])
-        ≡ list_any (λ rule. (rule.value == v) && contains (points (body_holds (known cache.now.rows store.now) rule) w q) t) rules.now) }
+        ≡ list_any (λ rule. (rule.value == v)
+        && contains (points (body_holds (known cache.now.rows store.now) rule) w q) t)
+        rules.now) }
     ensures steps { OnOk result (steps.new ≡ record {
       count = steps.old.count + evaluations_of (known cache.now.rows store.now) rules.now w q;
       out = steps.old.out;
     }) }
-    ensures most { OnErr result (steps.new.count ≤ steps.old.count + evaluations_of (known cache.now.rows store.now) rules.now w q) }
+    ensures most { OnErr result (steps.new.count ≤ steps.old.count + evaluations_of
+        (known cache.now.rows store.now) rules.now w q) }
     ensures parts { steps.new.out ≡ steps.old.out }
 {
     let none = Points::new(alloc);
@@ -195,7 +205,8 @@ fn parts_by_value<L: Ledger>(
 fn joined(alloc: Global, parts: &[Parts]) -> Result<Vec<Points>, OutOfMemory>
     ensures count { IfOk result (λ found. length found.items ≡ length parts.now) }
     ensures points { IfOk result (λ found. (v t : ℕ) →
-        contains (slice_index_or found.items v []) t ≡ list_any (λ points. contains points t) (slice_index_or parts.now v [])) }
+        contains (slice_index_or found.items v []) t ≡ list_any (λ points. contains points t)
+        (slice_index_or parts.now v [])) }
 {
     let mut found = Vec::with_capacity(alloc, parts.len())?;
     for part in parts {
@@ -204,9 +215,10 @@ fn joined(alloc: Global, parts: &[Parts]) -> Result<Vec<Points>, OutOfMemory>
     Ok(found)
 }
 
-/// For each of so many values the points of the window at which the body of one of its rules is true. The time is about that of
-/// sorting the points of all rules. The memory is within a constant factor of that of the points of all values and of one rule,
-/// beside at most `ROOM` for each value.
+/// For each of so many values the points of the window at which the body of one of its rules is
+/// true. The time is about that of sorting the points of all rules. The memory is within a constant
+/// factor of that of the points of all values and of one rule, beside at most `ROOM` for each
+/// value.
 pub(crate) fn points_by_value<L: Ledger>(
     alloc: Global,
     rules: &[Rule],
@@ -223,12 +235,14 @@ pub(crate) fn points_by_value<L: Ledger>(
     ensures count { IfOk result (λ found. length found.items ≡ count) }
     ensures inside { IfOk result (λ found. AllByRecursion (IsInside w q) found.items) }
     ensures points { IfOk result (λ found. (v t : ℕ) → w < t → t ≤ q →
-        contains (values_with 0 found.items t) v ≡ contains (values_of (known cache.now.rows store.now) rules.now t) v) }
+        contains (values_with 0 found.items t) v
+        ≡ contains (values_of (known cache.now.rows store.now) rules.now t) v) }
     ensures steps { OnOk result (steps.new ≡ record {
       count = steps.old.count + evaluations_of (known cache.now.rows store.now) rules.now w q;
       out = steps.old.out;
     }) }
-    ensures most { OnErr result (steps.new.count ≤ steps.old.count + evaluations_of (known cache.now.rows store.now) rules.now w q) }
+    ensures most { OnErr result (steps.new.count ≤ steps.old.count + evaluations_of
+        (known cache.now.rows store.now) rules.now w q) }
     ensures parts { steps.new.out ≡ steps.old.out }
 {
     let parts = parts_by_value(alloc, rules, count, cache, store, w, q, steps)?;

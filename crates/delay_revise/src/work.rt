@@ -1,5 +1,6 @@
 // The rows of one unit, from the rows of the units that its rules name.
-ghost use Rattle.std.specs.Prelude.{◌≡◌, ◌≤◌, ◌<◌, ◌+◌, ◌-◌, ◌^◌, nat_lt, ℕ, true, map, length, IfOk, OnOk, OnErr};
+ghost use Rattle.std.specs.Prelude.{◌≡◌, ◌≤◌, ◌<◌, ◌+◌, ◌-◌, ◌^◌, nat_lt, ℕ, true, map, length};
+ghost use Rattle.std.specs.Prelude.{IfOk, OnOk, OnErr};
 ghost use Rattle.std.specs.List.{list_all, AllByRecursion};
 ghost use Rattle.ground_types.specs.Meaning.{units_of_expr};
 ghost use Rattle.ground_types.specs.Publication.{initial_of};
@@ -30,7 +31,8 @@ fn rows_of_exprs(alloc: Global, exprs: &[Expr], cache: &Cache) -> Result<Vec<Spa
     requires rows { list_all (has_rows (length cache.now.rows)) exprs.now ≡ true }
     requires members { list_all has_members exprs.now ≡ true }
     ensures { IfOk result (λ rows. (w q : ℕ) → w ≤ q → IsInWindow w q cache.now.rows →
-        map pairs rows.items ≡ map (λ expr. row (expr_holds (told cache.now.rows) expr) w q) exprs.now) }
+        map pairs rows.items ≡ map (λ expr. row (expr_holds (told cache.now.rows) expr) w q)
+        exprs.now) }
 {
     let mut rows = Vec::with_capacity(alloc, exprs.len())?;
     for expr in exprs {
@@ -58,12 +60,14 @@ pub(crate) fn rows_of_unit<L: Ledger>(
     requires window { w < q }
     requires end { q < 2 ^ 64 - 1 }
     ensures rows { IfOk result (λ rows. published rows
-        ≡ rows_over (known cache.now.rows store.now) (initial_of unit.now.kind) (unit_values program.now unit.now) unit.now.kind w q) }
+        ≡ rows_over (known cache.now.rows store.now) (initial_of unit.now.kind)
+        (unit_values program.now unit.now) unit.now.kind w q) }
     ensures steps { OnOk result (steps.new ≡ record {
       count = steps.old.count + evaluations_over (known cache.now.rows store.now) unit.now.kind w q;
       out = steps.old.out;
     }) }
-    ensures most { OnErr result (steps.new.count ≤ steps.old.count + evaluations_over (known cache.now.rows store.now) unit.now.kind w q) }
+    ensures most { OnErr result (steps.new.count ≤ steps.old.count + evaluations_over
+        (known cache.now.rows store.now) unit.now.kind w q) }
     ensures parts { steps.new.out ≡ steps.old.out }
 {
     match &unit.kind {

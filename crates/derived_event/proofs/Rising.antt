@@ -1,5 +1,8 @@
--- Rising lists of points: what a filter leaves of one, and which of them are the points of a window.
-use Rattle.std.proofs.Common.{◌≡◌, ◌⊎◌, inl, inr, ℕ, ◌+◌, ◌-◌, ◌<◌, ◌≤◌, Bool, true, false, cond, ◌&&◌, ◌||◌, leb, ltb, eqb, List, [], ◌∷◌, filter, refl, sym, ◌∙◌, ap, arith}
+-- Rising lists of points: what a filter leaves of one, and which of them are the points of a
+-- window.
+use Rattle.std.proofs.Common.{◌≡◌, ◌⊎◌, inl, inr, ℕ, ◌+◌, ◌-◌, ◌<◌, ◌≤◌, Bool, true, false, cond}
+use Rattle.std.proofs.Common.{◌&&◌, ◌||◌, leb, ltb, eqb, List, [], ◌∷◌, filter, refl, sym, ◌∙◌, ap}
+use Rattle.std.proofs.Common.{arith}
 use Rattle.std.specs.List.{range_with_len}
 use Rattle.std.proofs.lemmas.Bool.Decides.{nat_tests}
 use Rattle.span_algebra.specs.Normal.{IsRising, IsRisingFrom}
@@ -9,24 +12,29 @@ use Rattle.ground_types.specs.Rows.{points, ArePointsFrom}
 use Rattle.ground_types.proofs.Members.{contains_hit, and_left}
 use Rattle.ground_types.proofs.Points.{points_are, points_unique}
 
-pub rising_lower : (floor less : ℕ) (xs : List ℕ) → IsRisingFrom floor xs → less ≤ floor → IsRisingFrom less xs
+pub rising_lower : (floor less : ℕ) (xs : List ℕ) → IsRisingFrom floor xs → less ≤ floor
+    → IsRisingFrom less xs
 rising_lower floor less [] rising le = tt
 rising_lower floor less (p ∷ rest) rising le = (omega (arith, rising.0), rising.1)
 
-filtered_by : (floor p : ℕ) (rest : List ℕ) (b : Bool) → floor ≤ p → IsRisingFrom (p + 1) rest → IsRisingFrom floor (cond b (p ∷ rest) rest)
+filtered_by : (floor p : ℕ) (rest : List ℕ) (b : Bool) → floor ≤ p → IsRisingFrom (p + 1) rest
+    → IsRisingFrom floor (cond b (p ∷ rest) rest)
 filtered_by floor p rest true le rising = (le, rising)
 filtered_by floor p rest false le rising = rising_lower (p + 1) floor rest rising (omega arith)
 
 -- a filter leaves a rising list
-pub rising_filter : (test : ℕ → Bool) (floor : ℕ) (xs : List ℕ) → IsRisingFrom floor xs → IsRisingFrom floor (filter test xs)
+pub rising_filter : (test : ℕ → Bool) (floor : ℕ) (xs : List ℕ) → IsRisingFrom floor xs
+    → IsRisingFrom floor (filter test xs)
 rising_filter test floor [] rising = tt
-rising_filter test floor (p ∷ rest) rising = filtered_by floor p (filter test rest) (test p) rising.0 (rising_filter test (p + 1) rest rising.1)
+rising_filter test floor (p ∷ rest) rising = filtered_by floor p (filter test rest) (test p)
+    rising.0 (rising_filter test (p + 1) rest rising.1)
 
 and_false : (b : Bool) → (b && false) ≡ false
 and_false true = refl
 and_false false = refl
 
-kept_by : (test : ℕ → Bool) (p t : ℕ) (xs : List ℕ) (b c : Bool) → test p ≡ b → eqb p t ≡ c → contains (filter test xs) t ≡ (test t && contains xs t) →
+kept_by : (test : ℕ → Bool) (p t : ℕ) (xs : List ℕ) (b c : Bool) → test p ≡ b → eqb p t ≡ c
+    → contains (filter test xs) t ≡ (test t && contains xs t) →
     contains (cond b (p ∷ filter test xs) (filter test xs)) t ≡ (test t && (c || contains xs t))
 kept_by test p t xs true true is at go =
     let same : p ≡ t = grind (arith, nat_tests) in
@@ -40,15 +48,18 @@ kept_by test p t xs false true is at go =
 kept_by test p t xs false false is at go = go
 
 -- a filter leaves the points that pass
-pub contains_filter : (test : ℕ → Bool) (xs : List ℕ) (t : ℕ) → contains (filter test xs) t ≡ (test t && contains xs t)
+pub contains_filter : (test : ℕ → Bool) (xs : List ℕ) (t : ℕ) → contains (filter test xs) t
+    ≡ (test t && contains xs t)
 contains_filter test [] t = sym (and_false (test t))
-contains_filter test (p ∷ xs) t = kept_by test p t xs (test p) (eqb p t) refl refl (contains_filter test xs t)
+contains_filter test (p ∷ xs) t = kept_by test p t xs (test p) (eqb p t) refl refl
+    (contains_filter test xs t)
 
 points_from : (floor : ℕ) (xs : List ℕ) → IsRisingFrom floor xs → ArePointsFrom floor xs
 points_from floor [] rising = tt
 points_from floor (p ∷ rest) rising = (rising.0, points_from (p + 1) rest rising.1)
 
-from_first : (floor more : ℕ) (xs : List ℕ) → ((t : ℕ) → contains xs t ≡ true → more ≤ t) → ArePointsFrom floor xs → ArePointsFrom more xs
+from_first : (floor more : ℕ) (xs : List ℕ) → ((t : ℕ) → contains xs t ≡ true → more ≤ t)
+    → ArePointsFrom floor xs → ArePointsFrom more xs
 from_first floor more [] above rising = tt
 from_first floor more (p ∷ rest) above rising = (above p (contains_hit p rest p refl), rising.1)
 
@@ -62,7 +73,8 @@ none_inside w q t false lt = grind (arith, nat_tests)
 
 contains_none : (xs : List ℕ) → ((t : ℕ) → contains xs t ≡ false) → xs ≡ []
 contains_none [] none = refl
-contains_none (p ∷ rest) none = absurd (let both : true ≡ false = sym (contains_hit p rest p refl) ∙ none p in cc)
+contains_none (p ∷ rest) none = absurd (let both : true ≡ false = sym (contains_hit p rest p refl)
+    ∙ none p in cc)
 
 no_points : (test : ℕ → Bool) (w q : ℕ) → q < w → points test w q ≡ []
 no_points test w q lt =
@@ -73,15 +85,21 @@ pub points_of_window : (test : ℕ → Bool) (w q : ℕ) (xs : List ℕ) → (w 
     ((t : ℕ) → contains xs t ≡ (ltb w t && leb t q && test t)) → xs ≡ points test w q
 points_of_window test w q xs (inl le) rising each =
     let low : (t : ℕ) → contains xs t ≡ true → w + 1 ≤ t =
-    λ t has. above_border w t (leb t q) (and_left (ltb w t && leb t q) (test t) (sym (each t) ∙ has)) in
+    λ t has. above_border w t (leb t q) (and_left (ltb w t && leb t q) (test t) (sym (each t)
+    ∙ has)) in
     points_unique test w q xs (points test w q)
-    (record { rising = from_first 0 (w + 1) xs low (points_from 0 xs rising); each = each }) (points_are test w q le)
+    (record { rising = from_first 0 (w + 1) xs low (points_from 0 xs rising); each = each })
+    (points_are test w q le)
 points_of_window test w q xs (inr lt) rising each =
     contains_none xs (λ t. each t ∙ none_inside w q t (test t) lt) ∙ sym (no_points test w q lt)
 
--- those of a rising list that lie in a window are the points of a test, where the list has the points at which the test is true
-pub points_by : (test : ℕ → Bool) (w q : ℕ) (xs : List ℕ) → IsRising xs → ((t : ℕ) → contains xs t ≡ test t) →
+-- those of a rising list that lie in a window are the points of a test, where the list has the
+-- points at which the test is true
+pub points_by : (test : ℕ → Bool) (w q : ℕ) (xs : List ℕ) → IsRising xs
+    → ((t : ℕ) → contains xs t ≡ test t) →
     filter (λ p. ltb w p && leb p q) xs ≡ points test w q
 points_by test w q xs rising each =
-    points_of_window test w q (filter (λ p. ltb w p && leb p q) xs) (le_or_above w q) (rising_filter (λ p. ltb w p && leb p q) 0 xs rising)
-    (λ t. contains_filter (λ p. ltb w p && leb p q) xs t ∙ ap (λ (b : Bool). ltb w t && leb t q && b) (each t))
+    points_of_window test w q (filter (λ p. ltb w p && leb p q) xs) (le_or_above w q)
+    (rising_filter (λ p. ltb w p && leb p q) 0 xs rising)
+    (λ t. contains_filter (λ p. ltb w p && leb p q) xs t ∙ ap (λ (b : Bool). ltb w t && leb t q
+    && b) (each t))

@@ -11,9 +11,10 @@ use rt_base::OutOfMemory;
 use span_algebra::{Points, Spans};
 use std::alloc::Global;
 
-/// The event points of the window `(w, q]` at which a row starts to hold: it holds at the next point and not at this one,
-/// so that a row that is carried in has no start at `w`. One pass over the spans. The points are those of the Run-Time Event
-/// Calculus' `start`, their exact place is our own.
+/// The event points of the window `(w, q]` at which a row starts to hold: it holds at the next
+/// point and not at this one, so that a row that is carried in has no start at `w`. One pass over
+/// the spans. The points are those of the Run-Time Event Calculus' `start`, their exact place is
+/// our own.
 pub fn starts(alloc: Global, row: &Spans, w: Point, q: Point) -> Result<Points, OutOfMemory>
     ensures { IfOk result (λ found. found ≡ points (is_start row.now) w q) }
 {
@@ -26,8 +27,9 @@ pub fn starts(alloc: Global, row: &Spans, w: Point, q: Point) -> Result<Points, 
     Ok(Points::of(alloc, found))
 }
 
-/// The event points of the window `(w, q]` at which a row ends to hold: it holds at this point and not at the next one, so
-/// that a row that goes on past the window has no end. One pass over the spans.
+/// The event points of the window `(w, q]` at which a row ends to hold: it holds at this point and
+/// not at the next one, so that a row that goes on past the window has no end. One pass over the
+/// spans.
 pub fn ends(alloc: Global, row: &Spans, w: Point, q: Point) -> Result<Points, OutOfMemory>
     ensures { IfOk result (λ found. found ≡ points (is_end row.now) w q) }
 {
@@ -40,11 +42,12 @@ pub fn ends(alloc: Global, row: &Spans, w: Point, q: Point) -> Result<Points, Ou
     Ok(Points::of(alloc, found))
 }
 
-/// The points that some list has, each once: those of a derived event, from the points at which the body of each of its
-/// rules is true. The time is that of sorting all of them.
+/// The points that some list has, each once: those of a derived event, from the points at which the
+/// body of each of its rules is true. The time is that of sorting all of them.
 pub fn derived_points(alloc: Global, rules: &[Points]) -> Result<Points, OutOfMemory>
     ensures rises { IfOk result (λ found. IsRising found) }
-    ensures points { IfOk result (λ found. (t : ℕ) → contains found t ≡ list_any (λ points. contains points t) rules.now) }
+    ensures points { IfOk result (λ found. (t : ℕ) → contains found t
+        ≡ list_any (λ points. contains points t) rules.now) }
 {
     let mut found = Vec::new(alloc);
     for points in rules {

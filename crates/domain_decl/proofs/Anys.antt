@@ -1,67 +1,96 @@
 -- Tests over lists that are made of other lists.
-use Rattle.std.proofs.Common.{◌≡◌, ℕ, Bool, not, ◌||◌, List, [], ◌∷◌, ◌++◌, map, flat_map, filter_map, refl, sym, ap, ap₂, ◌∙◌}
+use Rattle.std.proofs.Common.{◌≡◌, ℕ, Bool, not, ◌||◌, List, [], ◌∷◌, ◌++◌, map, flat_map}
+use Rattle.std.proofs.Common.{filter_map, refl, sym, ap, ap₂, ◌∙◌}
 use Rattle.std.proofs.lemmas.List.Folds.{list_any-append}
 use Rattle.std.specs.List.{list_any}
 use Rattle.std.specs.Str.{bytes_eq}
 use Rattle.rule_read.specs.declared.form.Term.{Term}
 use Rattle.rule_read.specs.declared.form.Term.TheVariants as term
 use Rattle.rule_read.specs.declared.form.Body.{Body}
-use Rattle.rule_read.specs.Forms.{PlainForm, Window, Step, From, Queries, Domain, Input, Simple, Static, Derived, Initially, Initiated, Terminated, Happens, HoldsFor}
+use Rattle.rule_read.specs.Forms.{PlainForm, Window, Step, From, Queries, Domain, Input, Simple}
+use Rattle.rule_read.specs.Forms.{Static, Derived, Initially, Initiated, Terminated, Happens}
+use Rattle.rule_read.specs.Forms.{HoldsFor}
 use Rattle.domain_decl.specs.declared.mentions.Mention.{Mention as Lent}
 use Rattle.domain_decl.specs.declared.variables.Place.{Place}
 use Rattle.domain_decl.specs.Lists.{has}
-use Rattle.domain_decl.specs.Mentions.{Mention, body_mentions, head_of, conditions_of, leaves_of, mentions, variable_in, variables}
+use Rattle.domain_decl.specs.Mentions.{Mention, body_mentions, head_of, conditions_of, leaves_of}
+use Rattle.domain_decl.specs.Mentions.{mentions, variable_in, variables}
 use Rattle.domain_decl.specs.Rules.{compared, has_loose_variable}
-use Rattle.domain_decl.specs.Gathered.{mention_of, mentions_of, place_of, places_of, is_variable, is_loose}
+use Rattle.domain_decl.specs.Gathered.{mention_of, mentions_of, place_of, places_of, is_variable}
+use Rattle.domain_decl.specs.Gathered.{is_loose}
 
-pub list_any-map : {X Y : Type 0} (p : Y → Bool) (f : X → Y) (xs : List X) → list_any p (map f xs) ≡ list_any (λ x. p (f x)) xs
+pub list_any-map : {X Y : Type 0} (p : Y → Bool) (f : X → Y) (xs : List X) → list_any p (map f xs)
+    ≡ list_any (λ x. p (f x)) xs
 list_any-map p f [] = refl
 list_any-map p f (x ∷ xs) = ap (λ b. p (f x) || b) (list_any-map p f xs)
 
-pub list_any-flat_map : {X Y : Type 0} (p : Y → Bool) (f : X → List Y) (xs : List X) → list_any p (flat_map f xs) ≡ list_any (λ x. list_any p (f x)) xs
+pub list_any-flat_map : {X Y : Type 0} (p : Y → Bool) (f : X → List Y) (xs : List X)
+    → list_any p (flat_map f xs) ≡ list_any (λ x. list_any p (f x)) xs
 list_any-flat_map p f [] = refl
-list_any-flat_map p f (x ∷ xs) = list_any-append p (f x) (flat_map f xs) ∙ ap (λ b. list_any p (f x) || b) (list_any-flat_map p f xs)
+list_any-flat_map p f (x ∷ xs) = list_any-append p (f x) (flat_map f xs)
+    ∙ ap (λ b. list_any p (f x) || b) (list_any-flat_map p f xs)
 
 -- tests that agree on each item
-pub list_any-same : {X : Type 0} (p q : X → Bool) → ((x : X) → p x ≡ q x) → (xs : List X) → list_any p xs ≡ list_any q xs
+pub list_any-same : {X : Type 0} (p q : X → Bool) → ((x : X) → p x ≡ q x) → (xs : List X)
+    → list_any p xs ≡ list_any q xs
 list_any-same p q same [] = refl
 list_any-same p q same (x ∷ xs) = ap₂ ◌||◌ (same x) (list_any-same p q same xs)
 
-pub any_of_places : (p : List ℕ × ℕ → Bool) (places : List Place) → list_any p (places_of places) ≡ list_any (λ place. p (place_of place)) places
+pub any_of_places : (p : List ℕ × ℕ → Bool) (places : List Place) → list_any p (places_of places)
+    ≡ list_any (λ place. p (place_of place)) places
 any_of_places p places = list_any-map p place_of places
 
-pub any_of_mentions : (p : Mention → Bool) (ms : List Lent) → list_any p (mentions_of ms) ≡ list_any (λ m. p (mention_of m)) ms
+pub any_of_mentions : (p : Mention → Bool) (ms : List Lent) → list_any p (mentions_of ms)
+    ≡ list_any (λ m. p (mention_of m)) ms
 any_of_mentions p ms = list_any-map p mention_of ms
 
 -- ---- variables
 
-variable_among : (word : List ℕ) (terms : List Term) → has (filter_map variable_in terms) word ≡ list_any (is_variable word) terms
+variable_among : (word : List ℕ) (terms : List Term) → has (filter_map variable_in terms) word
+    ≡ list_any (is_variable word) terms
 variable_among word [] = refl
 variable_among word (term.Entity w ∷ terms) = variable_among word terms
-variable_among word (term.Variable w ∷ terms) = ap (λ b. bytes_eq w word || b) (variable_among word terms)
+variable_among word (term.Variable w ∷ terms) = ap (λ b. bytes_eq w word || b)
+    (variable_among word terms)
 
-pub is_variable_of : (word : List ℕ) (ms : List Lent) → has (variables (mentions_of ms)) word ≡ list_any (λ m. list_any (is_variable word) m.atom.now.args) ms
+pub is_variable_of : (word : List ℕ) (ms : List Lent) → has (variables (mentions_of ms)) word
+    ≡ list_any (λ m. list_any (is_variable word) m.atom.now.args) ms
 is_variable_of word ms =
-    list_any-flat_map (λ other. bytes_eq other word) (λ (m : Mention). filter_map variable_in m.atom.args) (mentions_of ms)
+    list_any-flat_map (λ other. bytes_eq other word) (λ (m : Mention). filter_map variable_in
+    m.atom.args) (mentions_of ms)
     ∙ list_any-map (λ (m : Mention). has (filter_map variable_in m.atom.args) word) mention_of ms
-    ∙ list_any-same (λ (m : Lent). has (filter_map variable_in m.atom.now.args) word) (λ m. list_any (is_variable word) m.atom.now.args) (λ m. variable_among word m.atom.now.args) ms
+    ∙ list_any-same (λ (m : Lent). has (filter_map variable_in m.atom.now.args) word)
+    (λ m. list_any (is_variable word) m.atom.now.args) (λ m. variable_among word m.atom.now.args)
+    ms
 
-loose_among : (known : List (List ℕ)) (terms : List Term) → list_any (λ x. not (has known x)) (filter_map variable_in terms) ≡ list_any (is_loose known) terms
+loose_among : (known : List (List ℕ)) (terms : List Term) → list_any (λ x. not (has known x))
+    (filter_map variable_in terms) ≡ list_any (is_loose known) terms
 loose_among known [] = refl
 loose_among known (term.Entity w ∷ terms) = loose_among known terms
-loose_among known (term.Variable w ∷ terms) = ap (λ b. not (has known w) || b) (loose_among known terms)
+loose_among known (term.Variable w ∷ terms) = ap (λ b. not (has known w) || b)
+    (loose_among known terms)
 
-pub any_loose_of : (known : List (List ℕ)) (ms : List Lent) → list_any (λ x. not (has known x)) (variables (mentions_of ms)) ≡ list_any (λ m. list_any (is_loose known) m.atom.now.args) ms
+pub any_loose_of : (known : List (List ℕ)) (ms : List Lent) → list_any (λ x. not (has known x))
+    (variables (mentions_of ms)) ≡ list_any (λ m. list_any (is_loose known) m.atom.now.args) ms
 any_loose_of known ms =
-    list_any-flat_map (λ x. not (has known x)) (λ (m : Mention). filter_map variable_in m.atom.args) (mentions_of ms)
-    ∙ list_any-map (λ (m : Mention). list_any (λ x. not (has known x)) (filter_map variable_in m.atom.args)) mention_of ms
-    ∙ list_any-same (λ (m : Lent). list_any (λ x. not (has known x)) (filter_map variable_in m.atom.now.args)) (λ m. list_any (is_loose known) m.atom.now.args) (λ m. loose_among known m.atom.now.args) ms
+    list_any-flat_map (λ x. not (has known x)) (λ (m : Mention). filter_map variable_in
+    m.atom.args) (mentions_of ms)
+    ∙ list_any-map (λ (m : Mention). list_any (λ x. not (has known x))
+    (filter_map variable_in m.atom.args)) mention_of ms
+    ∙ list_any-same (λ (m : Lent). list_any (λ x. not (has known x))
+    (filter_map variable_in m.atom.now.args)) (λ m. list_any (is_loose known) m.atom.now.args)
+    (λ m. loose_among known m.atom.now.args) ms
 
-pub any_compared : (known : List (List ℕ)) (bodies : List Body) → list_any (λ x. not (has known x)) (flat_map compared bodies) ≡ list_any (λ body. list_any (λ x. not (has known x)) (compared body)) bodies
+pub any_compared : (known : List (List ℕ)) (bodies : List Body) → list_any (λ x. not (has known x))
+    (flat_map compared bodies) ≡ list_any (λ body. list_any (λ x. not (has known x))
+    (compared body)) bodies
 any_compared known bodies = list_any-flat_map (λ x. not (has known x)) compared bodies
 
 -- the head and the conditions of a statement with an expression are its head
-loose_leaves : (form : PlainForm) → list_any (λ x. not (has (variables (head_of form ++ flat_map body_mentions (conditions_of form))) x)) (variables (leaves_of form)) ≡ list_any (λ x. not (has (variables (head_of form)) x)) (variables (leaves_of form))
+loose_leaves : (form : PlainForm) → list_any
+    (λ x. not (has (variables (head_of form ++ flat_map body_mentions (conditions_of form))) x))
+    (variables (leaves_of form)) ≡ list_any (λ x. not (has (variables (head_of form)) x))
+    (variables (leaves_of form))
 loose_leaves (Window n) = refl
 loose_leaves (Step n) = refl
 loose_leaves (From n) = refl
@@ -79,6 +108,9 @@ loose_leaves (HoldsFor fv e) = refl
 
 pub loose_by_parts : (form : PlainForm) →
     has_loose_variable form
-    ≡ (list_any (λ x. not (has (variables (head_of form ++ flat_map body_mentions (conditions_of form))) x)) (variables (leaves_of form))
-    || list_any (λ x. not (has (variables (mentions form)) x)) (flat_map compared (conditions_of form)))
-loose_by_parts form = ap (λ b. b || list_any (λ x. not (has (variables (mentions form)) x)) (flat_map compared (conditions_of form))) (sym (loose_leaves form))
+    ≡ (list_any (λ x. not (has (variables (head_of form ++ flat_map body_mentions
+    (conditions_of form))) x)) (variables (leaves_of form))
+    || list_any (λ x. not (has (variables (mentions form)) x))
+    (flat_map compared (conditions_of form)))
+loose_by_parts form = ap (λ b. b || list_any (λ x. not (has (variables (mentions form)) x))
+    (flat_map compared (conditions_of form))) (sym (loose_leaves form))

@@ -3,7 +3,8 @@ use Rattle.std.proofs.Common.{◌≡◌, ℕ, List, [], ◌∷◌, ◌++◌, Opt
 use Rattle.std.specs.List.{cons_option}
 use Rattle.domain_decl.specs.Given.{given_by, with_number}
 
-pub given_by-next : (ns : List ℕ) (o : Option ℕ) → given_by (ns ++ cons_option o []) ≡ with_number (given_by ns) o
+pub given_by-next : (ns : List ℕ) (o : Option ℕ) → given_by (ns ++ cons_option o [])
+    ≡ with_number (given_by ns) o
 given_by-next [] None = refl
 given_by-next [] (Some m) = refl
 given_by-next (n ∷ []) None = refl

@@ -1,5 +1,5 @@
--- What a description declares, or the first rule that it breaks. "Accepted" means here as far as its plan, its declarations
--- and its rules go.
+-- What a description declares, or the first rule that it breaks. "Accepted" means here as far as
+-- its plan, its declarations and its rules go.
 use Rattle.std.specs.Prelude.{◌≡◌, List, map, Option, Some, None, Result, Ok, Err}
 use Rattle.ground_types.specs.declared.plan.Plan.{Plan}
 use Rattle.ground_types.specs.declared.program.Domain.{Domain}
@@ -21,7 +21,12 @@ pub record PlainChecked : Type 0 where
   pub rules : List PlainStatement
 
 abbrev pub plain_checked : Checked → PlainChecked
-plain_checked checked = record { plan = checked.plan; domains = checked.domains; names = checked.names; rules = map plain checked.rules }
+plain_checked checked = record {
+  plan = checked.plan;
+  domains = checked.domains;
+  names = checked.names;
+  rules = map plain checked.rules;
+}
 
 abbrev pub names_declared : List PlainStatement → List Name
 names_declared statements = names_of (domain_words (domains_of statements)) statements
@@ -34,9 +39,11 @@ or_else None other = other
 -- the first refusal behind the plan: of a declaration, else of a rule
 abbrev pub refusal_behind_plan : List PlainStatement → Option DeclRefused
 refusal_behind_plan statements =
-    or_else (declaration_refusal statements) (rule_refusal (domains_of statements) (names_declared statements) statements)
+    or_else (declaration_refusal statements) (rule_refusal (domains_of statements)
+    (names_declared statements) statements)
 
-abbrev pub accept : Plan → List PlainStatement → Option DeclRefused → Result PlainChecked DeclRefused
+abbrev pub accept : Plan → List PlainStatement → Option DeclRefused
+    → Result PlainChecked DeclRefused
 accept plan statements (Some refusal) = Err refusal
 accept plan statements None = Ok (record {
   plan = plan;
@@ -49,7 +56,8 @@ abbrev pub checked_with : Option Plan → List PlainStatement → Result PlainCh
 checked_with None statements = Err refused.BadPlan
 checked_with (Some plan) statements = accept plan statements (refusal_behind_plan statements)
 
--- What statements declare, or the first rule that they break: the plan, then declarations, then rules.
+-- What statements declare, or the first rule that they break: the plan, then declarations, then
+-- rules.
 abbrev pub checking : List PlainStatement → Result PlainChecked DeclRefused
 checking statements = checked_with (plan_of statements) statements
 

@@ -1,11 +1,15 @@
--- What a description declares: domains and names, in the order of their statements, and the statements that define them.
-use Rattle.std.specs.Prelude.{ℕ, Bool, true, false, List, [], map, filter, filter_map, Option, Some, None}
+-- What a description declares: domains and names, in the order of their statements, and the
+-- statements that define them.
+use Rattle.std.specs.Prelude.{ℕ, Bool, true, false, List, [], map, filter, filter_map, Option, Some}
+use Rattle.std.specs.Prelude.{None}
 use Rattle.ground_types.specs.declared.program.Domain.{Domain}
 use Rattle.ground_types.specs.declared.program.Name.{Name}
 use Rattle.ground_types.specs.declared.program.NameKind.{NameKind}
 use Rattle.ground_types.specs.declared.program.NameKind.TheVariants as name_kind
 use Rattle.rule_read.specs.declared.form.Decl.{Decl}
-use Rattle.rule_read.specs.Forms.{PlainForm, PlainStatement, Domain as DomainForm, Input, Simple, Static, Derived, Initially, Initiated, Terminated, Happens, HoldsFor}
+use Rattle.rule_read.specs.Forms.{PlainForm, PlainStatement, Domain as DomainForm, Input, Simple}
+use Rattle.rule_read.specs.Forms.{Static, Derived, Initially, Initiated, Terminated, Happens}
+use Rattle.rule_read.specs.Forms.{HoldsFor}
 use Rattle.domain_decl.specs.Lists.{place_in}
 
 abbrev pub domain_in : PlainForm → Option Domain
@@ -32,8 +36,10 @@ declared_name domains kind decl values line = record {
 -- the name that a form on a line declares
 abbrev pub name_in : List (List ℕ) → PlainForm → ℕ → Option Name
 name_in domains (Input decl) line = Some (declared_name domains name_kind.Input decl [] line)
-name_in domains (Simple decl values) line = Some (declared_name domains name_kind.Simple decl values line)
-name_in domains (Static decl values) line = Some (declared_name domains name_kind.Static decl values line)
+name_in domains (Simple decl values) line =
+    Some (declared_name domains name_kind.Simple decl values line)
+name_in domains (Static decl values) line =
+    Some (declared_name domains name_kind.Static decl values line)
 name_in domains (Derived decl) line = Some (declared_name domains name_kind.Derived decl [] line)
 name_in domains form line = None
 

@@ -1,5 +1,6 @@
 -- The rules on declarations.
-use Rattle.std.specs.Prelude.{ℕ, nat_lt, nat_le, Bool, true, false, not, ◌||◌, ◌&&◌, List, [], ◌∷◌, length, filter_map, count_by, Option, Some, None}
+use Rattle.std.specs.Prelude.{ℕ, nat_lt, nat_le, Bool, true, false, not, ◌||◌, ◌&&◌, List, [], ◌∷◌}
+use Rattle.std.specs.Prelude.{length, filter_map, count_by, Option, Some, None}
 use Rattle.std.specs.List.{list_any}
 use Rattle.ground_types.specs.Sound.{is_distinct}
 use Rattle.rule_read.specs.Forms.{PlainForm, PlainStatement, Domain, Input, Simple, Static, Derived}
@@ -40,15 +41,18 @@ abbrev pub most_members : PlainForm → ℕ
 most_members (Domain name entities) = 4096
 most_members form = 64
 
--- it is the 65th domain, or has more than 4,096 entities, more than 3 arguments or more than 64 values
+-- it is the 65th domain, or has more than 4,096 entities, more than 3 arguments or more than 64
+-- values
 abbrev pub declares_too_many : List PlainStatement → PlainForm → Bool
 declares_too_many before form =
-    (is_domain form && nat_le 64 (count_by (λ s. is_domain s.form) before)) || nat_lt (most_members form) (length (members_in form))
+    (is_domain form && nat_le 64 (count_by (λ s. is_domain s.form) before))
+    || nat_lt (most_members form) (length (members_in form))
     || nat_lt 3 (length (arguments_in form))
 
 -- an argument is not the name of a domain that is declared anywhere in the text
 abbrev pub has_undeclared_argument : List PlainStatement → PlainForm → Bool
-has_undeclared_argument all form = list_any (λ argument. not (has (domain_words (domains_of all)) argument)) (arguments_in form)
+has_undeclared_argument all form = list_any (λ argument.
+    not (has (domain_words (domains_of all)) argument)) (arguments_in form)
 
 -- its name was declared before, domains and all other names together
 abbrev pub is_declared_before : List PlainStatement → Option (List ℕ) → Bool
@@ -57,7 +61,8 @@ is_declared_before before (Some word) = has (filter_map (λ s. declares s.form) 
 
 -- its name was declared before, or an entity or a value stands twice
 abbrev pub declares_twice : List PlainStatement → PlainForm → Bool
-declares_twice before form = is_declared_before before (declares form) || not (is_distinct (members_in form))
+declares_twice before form = is_declared_before before (declares form)
+    || not (is_distinct (members_in form))
 
 -- the first rule that a declaration breaks
 abbrev pub declaration_fault : List PlainStatement → List PlainStatement → PlainForm → Option Fault

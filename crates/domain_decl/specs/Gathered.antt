@@ -8,7 +8,8 @@ use Rattle.domain_decl.specs.declared.mentions.Role.TheVariants as role
 use Rattle.domain_decl.specs.declared.mentions.Mention.{Mention as Lent}
 use Rattle.domain_decl.specs.declared.variables.Place.{Place}
 use Rattle.domain_decl.specs.Lists.{has}
-use Rattle.domain_decl.specs.Mentions.{Role, SimpleFluent, StaticFluent, DerivedEvent, AnyEvent, AnyFluent, Mention}
+use Rattle.domain_decl.specs.Mentions.{Role, SimpleFluent, StaticFluent, DerivedEvent, AnyEvent}
+use Rattle.domain_decl.specs.Mentions.{AnyFluent, Mention}
 
 -- what an atom has to name, as the definitions have it
 abbrev pub role_of : CodeRole → Role
@@ -19,7 +20,11 @@ role_of role.AnyEvent = AnyEvent
 role_of role.AnyFluent = AnyFluent
 
 abbrev pub mention_of : Lent → Mention
-mention_of lent = record { role = role_of lent.role; atom = lent.atom.now; value = option_copied lent.value }
+mention_of lent = record {
+  role = role_of lent.role;
+  atom = lent.atom.now;
+  value = option_copied lent.value;
+}
 
 abbrev pub mentions_of : List Lent → List Mention
 mentions_of lent = map mention_of lent

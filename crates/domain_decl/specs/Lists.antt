@@ -1,5 +1,6 @@
 -- Words in lists, and the first statement that is refused.
-use Rattle.std.specs.Prelude.{ℕ, Bool, List, [], ◌∷◌, ◌++◌, position, Option, Some, None, if◌then◌else◌}
+use Rattle.std.specs.Prelude.{ℕ, Bool, List, [], ◌∷◌, ◌++◌, position, Option, Some, None}
+use Rattle.std.specs.Prelude.{if◌then◌else◌}
 use Rattle.std.specs.List.{list_any}
 use Rattle.std.specs.Str.{bytes_eq}
 use Rattle.rule_read.specs.Forms.{PlainForm, PlainStatement}
@@ -28,6 +29,8 @@ refused_at (Some fault) line others = Some (fault line)
 refused_at None line others = others
 
 -- The first statement with a fault, each seen with those before it, and the refusal with its line.
-abbrev pub first_refusal : (List PlainStatement → PlainForm → Option Fault) → List PlainStatement → List PlainStatement → Option DeclRefused
+abbrev pub first_refusal : (List PlainStatement → PlainForm → Option Fault) → List PlainStatement
+    → List PlainStatement → Option DeclRefused
 first_refusal fault before [] = None
-first_refusal fault before (s ∷ ss) = refused_at (fault before s.form) s.line (first_refusal fault (before ++ (s ∷ [])) ss)
+first_refusal fault before (s ∷ ss) = refused_at (fault before s.form) s.line
+    (first_refusal fault (before ++ (s ∷ [])) ss)

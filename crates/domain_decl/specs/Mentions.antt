@@ -1,5 +1,6 @@
 -- The atoms of a rule, each with what it has to name.
-use Rattle.std.specs.Prelude.{ℕ, Bool, true, false, List, [], ◌∷◌, ◌++◌, flat_map, filter_map, Option, Some, None}
+use Rattle.std.specs.Prelude.{ℕ, Bool, true, false, List, [], ◌∷◌, ◌++◌, flat_map, filter_map}
+use Rattle.std.specs.Prelude.{Option, Some, None}
 use Rattle.ground_types.specs.declared.program.NameKind.{NameKind}
 use Rattle.ground_types.specs.declared.program.NameKind.TheVariants as name_kind
 use Rattle.rule_read.specs.declared.form.Term.{Term}
@@ -10,7 +11,9 @@ use Rattle.rule_read.specs.declared.form.EventText.{EventText}
 use Rattle.rule_read.specs.declared.form.EventText.TheVariants as event
 use Rattle.rule_read.specs.declared.form.Body.{Body}
 use Rattle.rule_read.specs.declared.form.Body.TheVariants as body
-use Rattle.rule_read.specs.Forms.{Expression, Expressions, Value_of, Union_of, Intersect_of, Complement_of, none, more, PlainForm, Initially, Initiated, Terminated, Happens, HoldsFor}
+use Rattle.rule_read.specs.Forms.{Expression, Expressions, Value_of, Union_of, Intersect_of}
+use Rattle.rule_read.specs.Forms.{Complement_of, none, more, PlainForm, Initially, Initiated}
+use Rattle.rule_read.specs.Forms.{Terminated, Happens, HoldsFor}
 
 -- what an atom has to name
 pub data Role : Type 0 where

@@ -1,16 +1,20 @@
 -- The rules on declarations once more, by what is remembered of the statements before.
-use Rattle.std.specs.Prelude.{ℕ, nat_lt, nat_le, Bool, false, not, ◌||◌, ◌&&◌, List, [], ◌∷◌, length, Option, Some, None}
+use Rattle.std.specs.Prelude.{ℕ, nat_lt, nat_le, Bool, false, not, ◌||◌, ◌&&◌, List, [], ◌∷◌}
+use Rattle.std.specs.Prelude.{length, Option, Some, None}
 use Rattle.std.specs.List.{list_any}
 use Rattle.ground_types.specs.Sound.{is_distinct}
 use Rattle.rule_read.specs.Forms.{PlainForm}
 use Rattle.domain_decl.specs.declared.checked.DeclRefused.TheVariants as refused
 use Rattle.domain_decl.specs.Lists.{has, Fault, first_fault}
-use Rattle.domain_decl.specs.Declarations.{is_domain, declares, arguments_in, members_in, most_members}
+use Rattle.domain_decl.specs.Declarations.{is_domain, declares, arguments_in, members_in}
+use Rattle.domain_decl.specs.Declarations.{most_members}
 
--- with so many domains before it, a declaration is the 65th, or it has more members or arguments than it may have
+-- with so many domains before it, a declaration is the 65th, or it has more members or arguments
+-- than it may have
 abbrev pub too_many_behind : ℕ → PlainForm → Bool
 too_many_behind domains form =
-    (is_domain form && nat_le 64 domains) || nat_lt (most_members form) (length (members_in form)) || nat_lt 3 (length (arguments_in form))
+    (is_domain form && nat_le 64 domains) || nat_lt (most_members form) (length (members_in form))
+    || nat_lt 3 (length (arguments_in form))
 
 -- an argument is none of these domains
 abbrev pub lacks_domain : List (List ℕ) → PlainForm → Bool
@@ -22,9 +26,11 @@ is_among declared (Some word) = has declared word
 
 -- its word is among those declared before it, or an entity or a value stands twice
 abbrev pub twice_behind : List (List ℕ) → PlainForm → Bool
-twice_behind declared form = is_among declared (declares form) || not (is_distinct (members_in form))
+twice_behind declared form = is_among declared (declares form)
+    || not (is_distinct (members_in form))
 
--- the first rule that a declaration breaks: of the words of all domains, the number of domains and the words before it
+-- the first rule that a declaration breaks: of the words of all domains, the number of domains and
+-- the words before it
 abbrev pub fault_behind : List (List ℕ) → ℕ → List (List ℕ) → PlainForm → Option Fault
 fault_behind domains count declared form = first_fault (
     (too_many_behind count form, refused.TooMany)

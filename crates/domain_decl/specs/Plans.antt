@@ -1,5 +1,6 @@
 -- The plan of a description.
-use Rattle.std.specs.Prelude.{ℕ, nat_le, Bool, ◌&&◌, List, [], ◌∷◌, filter_map, Option, Some, None, if◌then◌else◌}
+use Rattle.std.specs.Prelude.{ℕ, nat_le, Bool, ◌&&◌, List, [], ◌∷◌, filter_map, Option, Some, None}
+use Rattle.std.specs.Prelude.{if◌then◌else◌}
 use Rattle.ground_types.specs.declared.plan.Plan.{Plan}
 use Rattle.rule_read.specs.Forms.{PlainForm, PlainStatement, Window, Step, From, Queries}
 
@@ -25,7 +26,8 @@ all_in number_in statements = filter_map (λ s. number_in s.form) statements
 
 abbrev pub is_allowed : Plan → Bool
 is_allowed plan =
-    nat_le 1 plan.step && nat_le plan.step plan.window && nat_le plan.window 1000000000000 && nat_le plan.from 4000000000000000
+    nat_le 1 plan.step && nat_le plan.step plan.window && nat_le plan.window 1000000000000
+    && nat_le plan.from 4000000000000000
     && nat_le 1 plan.queries && nat_le plan.queries 1024
 
 -- the only one
@@ -45,8 +47,10 @@ plan_by (Some window) (Some step) (Some from) (Some queries) =
     if is_allowed plan then Some plan else None
 plan_by window step from queries = None
 
--- The plan: one `window`, one `step`, and at most one `from`, else 0, and one `queries`, else 1,024; and the numbers are allowed.
+-- The plan: one `window`, one `step`, and at most one `from`, else 0, and one `queries`, else
+-- 1,024; and the numbers are allowed.
 abbrev pub plan_of : List PlainStatement → Option Plan
 plan_of statements =
-    plan_by (only (all_in window_in statements)) (only (all_in step_in statements)) (only_or 0 (all_in from_in statements))
+    plan_by (only (all_in window_in statements)) (only (all_in step_in statements))
+    (only_or 0 (all_in from_in statements))
     (only_or 1024 (all_in queries_in statements))

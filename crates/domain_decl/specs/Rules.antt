@@ -1,5 +1,7 @@
 -- The rules on the statements that define fluents and derived events.
-use Rattle.std.specs.Prelude.{ℕ, nat_lt, Bool, true, false, not, ◌||◌, ◌&&◌, ◌==◌, List, [], ◌∷◌, ◌++◌, length, flat_map, filter_map, find, slice_get, zip, Option, Some, None}
+use Rattle.std.specs.Prelude.{ℕ, nat_lt, Bool, true, false, not, ◌||◌, ◌&&◌, ◌==◌, List, [], ◌∷◌}
+use Rattle.std.specs.Prelude.{◌++◌, length, flat_map, filter_map, find, slice_get, zip, Option}
+use Rattle.std.specs.Prelude.{Some, None}
 use Rattle.std.specs.List.{list_any}
 use Rattle.std.specs.Str.{bytes_eq}
 use Rattle.ground_types.specs.declared.program.Domain.{Domain}
@@ -13,7 +15,8 @@ use Rattle.domain_decl.specs.declared.checked.DeclRefused.{DeclRefused}
 use Rattle.domain_decl.specs.declared.checked.DeclRefused.TheVariants as refused
 use Rattle.domain_decl.specs.Lists.{has, Fault, first_fault, first_refusal}
 use Rattle.domain_decl.specs.Contents.{domain_words, name_words}
-use Rattle.domain_decl.specs.Mentions.{Role, Mention, fits, mentions, head_of, conditions_of, leaves_of, variables}
+use Rattle.domain_decl.specs.Mentions.{Role, Mention, fits, mentions, head_of, conditions_of}
+use Rattle.domain_decl.specs.Mentions.{leaves_of, variables}
 
 -- the declaration of a name
 abbrev pub declaration : List Name → List ℕ → Option Name
@@ -53,8 +56,8 @@ lacks_trigger form = false
 abbrev pub names_undeclared : List Domain → List Name → Mention → Bool
 names_undeclared domains names m = not (has (domain_words domains ++ name_words names) m.atom.name)
 
--- The name of a domain is that of no fluent or event, so it is of the wrong kind wherever it stands. A name that is declared
--- nowhere was refused before.
+-- The name of a domain is that of no fluent or event, so it is of the wrong kind wherever it
+-- stands. A name that is declared nowhere was refused before.
 abbrev pub differs_in_kind : Role → Option Name → Bool
 differs_in_kind role None = true
 differs_in_kind role (Some name) = not (fits role name.kind)
@@ -63,7 +66,8 @@ differs_in_kind role (Some name) = not (fits role name.kind)
 abbrev pub is_of_wrong_kind : List Name → Mention → Bool
 is_of_wrong_kind names m = differs_in_kind m.role (declaration names m.atom.name)
 
--- None never decides here and below: a name with no declaration as a fluent or event was refused before.
+-- None never decides here and below: a name with no declaration as a fluent or event was refused
+-- before.
 abbrev pub differs_in_arity : List Term → Option Name → Bool
 differs_in_arity args None = true
 differs_in_arity args (Some name) = not (length args == length name.args)
@@ -84,7 +88,8 @@ lacks_value name (Some value) = not (has name.values value)
 abbrev pub differs_in_word : List Domain → Mention → Option Name → Bool
 differs_in_word domains m None = true
 differs_in_word domains m (Some name) =
-    lacks_value name m.value || list_any (λ place. is_foreign domains place.0 place.1) (zip m.atom.args name.args)
+    lacks_value name m.value || list_any (λ place. is_foreign domains place.0 place.1)
+    (zip m.atom.args name.args)
 
 -- a value that its fluent does not have, or an entity that is not in the domain of its place
 abbrev pub has_undeclared_word : List Domain → List Name → Mention → Bool
@@ -101,7 +106,8 @@ places_by args (Some name) = filter_map (λ place. variable_at place.0 place.1) 
 
 -- the variables of all atoms of a rule, each with the number of its place's domain
 abbrev pub places : List Name → PlainForm → List (List ℕ × ℕ)
-places names form = flat_map (λ m. places_by m.atom.args (declaration names m.atom.name)) (mentions form)
+places names form = flat_map (λ m. places_by m.atom.args (declaration names m.atom.name))
+    (mentions form)
 
 -- one variable at places of two different domains
 abbrev pub clash : List ℕ × ℕ → List ℕ × ℕ → Bool
@@ -109,18 +115,21 @@ clash one other = bytes_eq one.0 other.0 && not (one.1 == other.1)
 
 -- a variable stands at places of two different domains
 abbrev pub has_clash : List Name → PlainForm → Bool
-has_clash names form = list_any (λ one. list_any (clash one) (places names form)) (places names form)
+has_clash names form = list_any (λ one. list_any (clash one) (places names form))
+    (places names form)
 
 abbrev pub compared : Body → List (List ℕ)
 compared (body.Happens positive event) = []
 compared (body.Holds positive fv) = []
 compared (body.Unequal x y) = x ∷ y ∷ []
 
--- a variable of a holdsFor expression is not in the head, or a variable of \= stands at no place of an atom
+-- a variable of a holdsFor expression is not in the head, or a variable of \= stands at no place of
+-- an atom
 abbrev pub has_loose_variable : PlainForm → Bool
 has_loose_variable form =
     list_any (λ x. not (has (variables (head_of form)) x)) (variables (leaves_of form))
-    || list_any (λ x. not (has (variables (mentions form)) x)) (flat_map compared (conditions_of form))
+    || list_any (λ x. not (has (variables (mentions form)) x))
+    (flat_map compared (conditions_of form))
 
 -- the first rule that a statement breaks
 abbrev pub rule_fault : List Domain → List Name → PlainForm → Option Fault
@@ -137,4 +146,5 @@ rule_fault domains names form = first_fault (
 
 -- the refusal of the first statement that breaks a rule
 abbrev pub rule_refusal : List Domain → List Name → List PlainStatement → Option DeclRefused
-rule_refusal domains names statements = first_refusal (λ before. rule_fault domains names) [] statements
+rule_refusal domains names statements = first_refusal (λ before. rule_fault domains names) []
+    statements

@@ -1,5 +1,6 @@
 -- What is known of a description that was checked.
-use Rattle.std.specs.Prelude.{◌≡◌, ◌<◌, ◌≤◌, ◌^◌, ℕ, nat_lt, nat_le, Bool, true, ◌&&◌, ◌==◌, List, ◌++◌, length, None}
+use Rattle.std.specs.Prelude.{◌≡◌, ◌<◌, ◌≤◌, ◌^◌, ℕ, nat_lt, nat_le, Bool, true, ◌&&◌, ◌==◌, List}
+use Rattle.std.specs.Prelude.{◌++◌, length, None}
 use Rattle.std.specs.List.{list_all}
 use Rattle.rt_base.specs.Kinds.{is_name}
 use Rattle.ground_types.specs.Windows.{IsSoundPlan}
@@ -18,23 +19,27 @@ use Rattle.domain_decl.specs.Rules.{rule_fault}
 
 -- a domain of at most 4,096 different entities
 abbrev pub is_sound_domain : Domain → Bool
-is_sound_domain domain = is_name domain.word && are_constants domain.entities && nat_le (length domain.entities) 4096
+is_sound_domain domain = is_name domain.word && are_constants domain.entities
+    && nat_le (length domain.entities) 4096
 
 -- a fluent has 1 to 64 different values, an event none
 abbrev pub has_sound_values : NameKind → List (List ℕ) → Bool
 has_sound_values name_kind.Input values = length values == 0
 has_sound_values name_kind.Derived values = length values == 0
-has_sound_values kind values = are_constants values && nat_le 1 (length values) && nat_le (length values) 64
+has_sound_values kind values = are_constants values && nat_le 1 (length values)
+    && nat_le (length values) 64
 
 -- a name over at most 3 of so many domains
 abbrev pub is_sound_name : ℕ → Name → Bool
 is_sound_name domains name =
-    is_name name.word && nat_le (length name.args) 3 && list_all (λ d. nat_lt d domains) name.args && has_sound_values name.kind name.values
+    is_name name.word && nat_le (length name.args) 3 && list_all (λ d. nat_lt d domains) name.args
+    && has_sound_values name.kind name.values
 
 -- a statement that defines a fluent or a derived event, of a sound form, and that breaks no rule
 abbrev pub IsSoundRule : List Domain → List Name → Statement → Type 0
 IsSoundRule domains names s =
-    (is_rule (plain_form s.form) ≡ true) × IsSoundStatement s × (rule_fault domains names (plain_form s.form) ≡ None)
+    (is_rule (plain_form s.form) ≡ true) × IsSoundStatement s
+    × (rule_fault domains names (plain_form s.form) ≡ None)
 
 -- an allowed plan, words of their kinds, none declared twice, and nothing that a rule refuses
 pub record IsSound (checked : Checked) : Type 0 where

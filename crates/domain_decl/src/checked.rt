@@ -11,21 +11,23 @@ pub struct Checked {
     pub domains: List<Domain>,
     /// In declared order. Their ground events and units are not numbered yet: each `first` is 0.
     pub names: List<Name>,
-    /// The `initially`, `initiatedAt`, `terminatedAt`, `happensAt` and `holdsFor` statements, in the order of the text.
+    /// The `initially`, `initiatedAt`, `terminatedAt`, `happensAt` and `holdsFor` statements, in
+    /// the order of the text.
     pub rules: List<Statement>,
 }
 
-/// The first rule that a description breaks: of those on the plan, then of those on declarations in the order of the
-/// text, then of those on rules in the order of the text. A line is that on which the refused statement begins, counted
-/// from 1.
+/// The first rule that a description breaks: of those on the plan, then of those on declarations in
+/// the order of the text, then of those on rules in the order of the text. A line is that on which
+/// the refused statement begins, counted from 1.
 #[derive(Clone, Copy, Debug, PartialEq, Eq)]
 pub enum DeclRefused {
-    /// Not exactly one `window` and one `step`, more than one `from` or `queries`, or numbers that are not allowed.
+    /// Not exactly one `window` and one `step`, more than one `from` or `queries`, or numbers that
+    /// are not allowed.
     BadPlan,
     /// More than 64 domains, 4,096 entities, 3 arguments, 64 values, 8 conditions or 64 leaves.
     TooMany { line: u32 },
-    /// An argument that is no domain, a name that is declared nowhere, a value that its fluent does not have, or an
-    /// entity that is not in the domain of its place.
+    /// An argument that is no domain, a name that is declared nowhere, a value that its fluent does
+    /// not have, or an entity that is not in the domain of its place.
     Undeclared { line: u32 },
     /// A name that was declared before, or an entity or a value that stands twice in its list.
     Twice { line: u32 },

@@ -3,7 +3,8 @@ ghost use Rattle.std.specs.Prelude.{◌≡◌, ◌<◌, ◌^◌, true, length, m
 ghost use Rattle.ground_types.specs.Sound.{is_distinct};
 ghost use Rattle.rule_read.specs.Forms.{plain, plain_form};
 ghost use Rattle.domain_decl.specs.Lists.{place_in};
-ghost use Rattle.domain_decl.specs.Contents.{declared_name, domain_in, domains_of, domain_words, is_rule, name_in, names_of, rules_of};
+ghost use Rattle.domain_decl.specs.Contents.{declared_name, domain_in, domains_of, domain_words};
+ghost use Rattle.domain_decl.specs.Contents.{is_rule, name_in, names_of, rules_of};
 
 use crate::words::WordSet;
 use ground_types::{Domain, Name, NameKind};
@@ -107,7 +108,8 @@ fn name_in(
     statement: &Statement,
 ) -> Result<Option<Name>, OutOfMemory>
     requires { length domains.now < 2 ^ 32 }
-    ensures { IfOk result (λ name. name ≡ name_in domains.now (plain_form statement.now.form) statement.now.line) }
+    ensures { IfOk result (λ name. name ≡ name_in domains.now (plain_form statement.now.form)
+        statement.now.line) }
 {
     let line = statement.line;
     let name = match &statement.form {
@@ -146,7 +148,8 @@ pub(crate) fn names_of(
 ) -> Result<List<Name>, OutOfMemory>
     requires distinct { is_distinct (domain_words domains.now) ≡ true }
     requires few { length domains.now < 2 ^ 32 }
-    ensures { IfOk result (λ names. names ≡ names_of (domain_words domains.now) (map plain statements.now)) }
+    ensures { IfOk result (λ names. names ≡ names_of (domain_words domains.now)
+        (map plain statements.now)) }
 {
     let words = words_of(alloc, domains)?;
     let mut names = Vec::new(alloc);

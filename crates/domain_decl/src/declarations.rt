@@ -1,11 +1,14 @@
 // The rules on declarations.
-ghost use Rattle.std.specs.Prelude.{◌≡◌, ◌++◌, ℕ, List, [], None, true, false, map, option_map, IfOk, OnOk};
+ghost use Rattle.std.specs.Prelude.{◌≡◌, ◌++◌, ℕ, List, [], None, true, false, map, option_map};
+ghost use Rattle.std.specs.Prelude.{IfOk, OnOk};
 ghost use Rattle.std.specs.List.{cons_option};
 ghost use Rattle.rule_read.specs.Forms.{plain, plain_form};
 ghost use Rattle.domain_decl.specs.Lists.{has, refused_at};
 ghost use Rattle.domain_decl.specs.Contents.{domain_in, domains_of, domain_words};
-ghost use Rattle.domain_decl.specs.Declarations.{is_domain, declares, arguments_in, members_in, declaration_refusal};
-ghost use Rattle.domain_decl.specs.Passes.{too_many_behind, lacks_domain, twice_behind, fault_behind};
+ghost use Rattle.domain_decl.specs.Declarations.{is_domain, declares, arguments_in, members_in};
+ghost use Rattle.domain_decl.specs.Declarations.{declaration_refusal};
+ghost use Rattle.domain_decl.specs.Passes.{too_many_behind, lacks_domain, twice_behind};
+ghost use Rattle.domain_decl.specs.Passes.{fault_behind};
 ghost use Rattle.domain_decl.specs.Accepted.{Tests};
 
 use crate::checked::DeclRefused;
@@ -22,7 +25,8 @@ fn is_domain(form: &Form) -> bool
 
 /// The word of the domain that a statement declares.
 fn domain_word(form: &Form) -> Option<&Word>
-    ensures { option_map (λ word. word.now) result ≡ option_map (λ domain. domain.word) (domain_in (plain_form form.now)) }
+    ensures { option_map (λ word. word.now) result ≡ option_map (λ domain. domain.word)
+        (domain_in (plain_form form.now)) }
 {
     match form {
         Form::Domain(word, _) => Some(word),
@@ -94,8 +98,10 @@ fn declares_twice<'a>(
     declared: &mut WordSet<'a>,
     form: &'a Form,
 ) -> Result<bool, OutOfMemory>
-    ensures twice { IfOk result (λ answer. answer ≡ twice_behind declared.old (plain_form form.now)) }
-    ensures declared { IfOk result (λ answer. answer ≡ false → declared.new ≡ declared.old ++ cons_option (declares (plain_form form.now)) []) }
+    ensures twice { IfOk result (λ answer. answer ≡ twice_behind declared.old
+        (plain_form form.now)) }
+    ensures declared { IfOk result (λ answer. answer ≡ false → declared.new ≡ declared.old
+        ++ cons_option (declares (plain_form form.now)) []) }
 {
     if let Some(word) = declares(form) {
         if !declared.insert(word.as_str())? {
@@ -105,7 +111,8 @@ fn declares_twice<'a>(
     Ok(!are_distinct(alloc, members(form))?)
 }
 
-/// Tests a declaration behind so many domains and these words; its word is then one of those declared.
+/// Tests a declaration behind so many domains and these words; its word is then one of those
+/// declared.
 fn test_declaration<'a>(
     alloc: Global,
     domains: &WordSet<'_>,
@@ -113,8 +120,10 @@ fn test_declaration<'a>(
     declared: &mut WordSet<'a>,
     statement: &'a Statement,
 ) -> Result<(), DeclRefused>
-    ensures tests { Tests result (refused_at (fault_behind domains.now count declared.old (plain_form statement.now.form)) statement.now.line None) }
-    ensures declared { OnOk result (declared.new ≡ declared.old ++ cons_option (declares (plain_form statement.now.form)) []) }
+    ensures tests { Tests result (refused_at (fault_behind domains.now count declared.old
+        (plain_form statement.now.form)) statement.now.line None) }
+    ensures declared { OnOk result (declared.new ≡ declared.old ++ cons_option
+        (declares (plain_form statement.now.form)) []) }
 {
     let line = statement.line;
     if has_too_many(count, &statement.form) {
@@ -131,7 +140,8 @@ fn test_declaration<'a>(
 
 /// The words of all domains.
 fn domain_set(alloc: Global, statements: &[Statement]) -> Result<WordSet<'_>, OutOfMemory>
-    ensures { IfOk result (λ set. (word : List ℕ) → has set word ≡ has (domain_words (domains_of (map plain statements.now))) word) }
+    ensures { IfOk result (λ set. (word : List ℕ)
+        → has set word ≡ has (domain_words (domains_of (map plain statements.now))) word) }
 {
     let mut set = WordSet::new(alloc);
     for statement in statements {

@@ -11,8 +11,8 @@ use ground_types::{Domain, Name};
 use rt_base::{OutOfMemory, Word};
 use std::alloc::Global;
 
-/// Declared domains and names, with hash tables in which their words are found. It borrows the lists and copies no
-/// word; it is made in one pass over the names and the entities.
+/// Declared domains and names, with hash tables in which their words are found. It borrows the
+/// lists and copies no word; it is made in one pass over the names and the entities.
 #[derive(Drop)]
 pub struct Known<'a> {
     /// The domains that it was made of, in declared order.
@@ -76,8 +76,8 @@ fn name_at<'a>(names: &'a [Name], place: usize) -> Option<&'a Name>
 }
 
 impl<'a> Known<'a> {
-    /// The tables of these domains and names, such as `check` gives. No word may be declared twice, domains and names
-    /// together. One look-up and an insertion for each name and each entity.
+    /// The tables of these domains and names, such as `check` gives. No word may be declared twice,
+    /// domains and names together. One look-up and an insertion for each name and each entity.
     pub fn new(
         alloc: Global,
         domains: &'a [Domain],
@@ -97,14 +97,16 @@ impl<'a> Known<'a> {
         })
     }
 
-    /// The place of the fluent or event of this name among the names, from 0; None where there is none. One look-up.
+    /// The place of the fluent or event of this name among the names, from 0; None where there is
+    /// none. One look-up.
     pub fn place(&self, word: &Word) -> Option<usize>
         ensures { result ≡ place_in (name_words self.now.names.now) word.now }
     {
         self.by_word.place(word.as_str())
     }
 
-    /// The declaration of the fluent or event of this name; None where there is none, as for a domain. One look-up.
+    /// The declaration of the fluent or event of this name; None where there is none, as for a
+    /// domain. One look-up.
     pub fn declaration(&self, word: &Word) -> Option<&'a Name>
         ensures { option_copied result ≡ declaration self.now.names.now word.now }
     {
@@ -112,17 +114,18 @@ impl<'a> Known<'a> {
         name_at(self.names, place)
     }
 
-    /// Whether a domain, a fluent or an event is declared by this word. One look-up, and where that finds no name, a
-    /// walk over the domains.
+    /// Whether a domain, a fluent or an event is declared by this word. One look-up, and where that
+    /// finds no name, a walk over the domains.
     #[tactic(auto, using(crate::proofs::LookUps::has_either))]
     pub fn is_declared(&self, word: &Word) -> bool
-        ensures { result ≡ has (domain_words self.now.domains.now ++ name_words self.now.names.now) word.now }
+        ensures { result ≡ has (domain_words self.now.domains.now ++ name_words self.now.names.now)
+            word.now }
     {
         self.by_word.contains(word.as_str()) || has_domain(self.domains, word)
     }
 
-    /// Whether a word is an entity of the domain of this number, counted from 0 in declared order; false where there is
-    /// no such domain. One look-up.
+    /// Whether a word is an entity of the domain of this number, counted from 0 in declared order;
+    /// false where there is no such domain. One look-up.
     pub fn is_entity(&self, domain: u32, word: &Word) -> bool
         ensures { result ≡ has (entities_of self.now.domains.now domain) word.now }
     {
@@ -132,10 +135,12 @@ impl<'a> Known<'a> {
         }
     }
 
-    /// The number of an entity in the domain of this number, both counted from 0 in declared order; None where it is
-    /// none. The entities of the domain have to be different, as `check` sees to. One look-up.
+    /// The number of an entity in the domain of this number, both counted from 0 in declared order;
+    /// None where it is none. The entities of the domain have to be different, as `check` sees to.
+    /// One look-up.
     pub fn entity(&self, domain: u32, word: &Word) -> Option<usize>
-        ensures { is_distinct (entities_of self.now.domains.now domain) ≡ true → result ≡ place_in (entities_of self.now.domains.now domain) word.now }
+        ensures { is_distinct (entities_of self.now.domains.now domain) ≡ true
+            → result ≡ place_in (entities_of self.now.domains.now domain) word.now }
     {
         match self.entities.get(domain as usize) {
             Some(set) => set.place(word.as_str()),

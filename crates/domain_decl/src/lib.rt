@@ -1,8 +1,9 @@
-//! Which descriptions mean something: the plan, the declarations and the rules are checked.
-//! Its promise: `check` refuses exactly where one of the rules on plan, declarations and rules does, with the first that
-//! fails and its line, and otherwise gives what the text declares; want of memory aside. `Known` looks up what is
-//! declared, and `places` tells over which domains the variables of a statement are. It stands on `rt_base`, `rule_read`,
-//! `ground_types` and `indexmap`.
+//! Which descriptions mean something: the plan, the declarations and the rules are checked. Its
+//! promise: `check` refuses exactly where one of the rules on plan, declarations and rules does,
+//! with the first that fails and its line, and otherwise gives what the text declares; want of
+//! memory aside. `Known` looks up what is declared, and `places` tells over which domains the
+//! variables of a statement are. It stands on `rt_base`, `rule_read`, `ground_types` and
+//! `indexmap`.
 #![tactic(auto)]
 
 mod checked;

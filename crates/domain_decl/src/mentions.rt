@@ -1,7 +1,10 @@
 // The atoms of a rule, each with what it has to name.
-ghost use Rattle.std.specs.Prelude.{◌≡◌, ◌≤◌, ◌++◌, ◌∷◌, [], length, take, drop, flat_map, option_map, option_to_list, IfOk};
+ghost use Rattle.std.specs.Prelude.{◌≡◌, ◌≤◌, ◌++◌, ◌∷◌, [], length, take, drop, flat_map};
+ghost use Rattle.std.specs.Prelude.{option_map, option_to_list, IfOk};
 ghost use Rattle.rule_read.specs.Forms.{plain_tree, plain_form};
-ghost use Rattle.domain_decl.specs.Mentions.{fluent_value, event_atom, event_mention, body_mentions, leaves, head_of, conditions_of, leaves_of, mentions};
+ghost use Rattle.domain_decl.specs.Mentions.{fluent_value, event_atom, event_mention};
+ghost use Rattle.domain_decl.specs.Mentions.{body_mentions, leaves, head_of, conditions_of};
+ghost use Rattle.domain_decl.specs.Mentions.{leaves_of, mentions};
 ghost use Rattle.domain_decl.specs.Gathered.{role_of, mention_of, mentions_of};
 
 use rt_base::{OutOfMemory, Word};
@@ -59,7 +62,8 @@ fn event_mention<'a>(event: &'a EventText) -> Mention<'a>
 
 // Adds the atom of a condition, which `\=` has not.
 fn add_condition<'a>(body: &'a Body, into: &mut Vec<Mention<'a>>) -> Result<(), OutOfMemory>
-    ensures { IfOk result (λ _. mentions_of into.new.items ≡ mentions_of into.old.items ++ body_mentions body.now) }
+    ensures { IfOk result (λ _. mentions_of into.new.items ≡ mentions_of into.old.items
+        ++ body_mentions body.now) }
 {
     match body {
         Body::Happens { event, .. } => into.push(event_mention(event))?,
@@ -107,7 +111,8 @@ pub fn conditions_of(form: &Form) -> &[Body]
 
 // Adds the atoms of conditions, in their order.
 fn add_conditions<'a>(bodies: &'a [Body], into: &mut Vec<Mention<'a>>) -> Result<(), OutOfMemory>
-    ensures { IfOk result (λ _. mentions_of into.new.items ≡ mentions_of into.old.items ++ flat_map body_mentions bodies.now) }
+    ensures { IfOk result (λ _. mentions_of into.new.items ≡ mentions_of into.old.items ++ flat_map
+        body_mentions bodies.now) }
 {
     for body in bodies {
         add_condition(body, into)?;
@@ -118,7 +123,8 @@ fn add_conditions<'a>(bodies: &'a [Body], into: &mut Vec<Mention<'a>>) -> Result
 // Adds the leaves of an expression, in their order.
 #[cycle(leaves)]
 fn add_leaves<'a>(tree: &'a Tree, into: &mut Vec<Mention<'a>>) -> Result<(), OutOfMemory>
-    ensures { IfOk result (λ _. mentions_of into.new.items ≡ mentions_of into.old.items ++ leaves (plain_tree tree.now)) }
+    ensures { IfOk result (λ _. mentions_of into.new.items ≡ mentions_of into.old.items ++ leaves
+        (plain_tree tree.now)) }
 {
     match tree {
         Tree::Leaf(fv) => {
@@ -136,7 +142,8 @@ fn add_leaves<'a>(tree: &'a Tree, into: &mut Vec<Mention<'a>>) -> Result<(), Out
 
 #[cycle(leaves)]
 fn add_all_leaves<'a>(trees: &'a [Tree], into: &mut Vec<Mention<'a>>) -> Result<(), OutOfMemory>
-    ensures { IfOk result (λ _. mentions_of into.new.items ≡ mentions_of into.old.items ++ flat_map (λ tree. leaves (plain_tree tree)) trees.now) }
+    ensures { IfOk result (λ _. mentions_of into.new.items ≡ mentions_of into.old.items ++ flat_map
+        (λ tree. leaves (plain_tree tree)) trees.now) }
 {
     for tree in trees {
         add_leaves(tree, into)?;
@@ -146,7 +153,8 @@ fn add_all_leaves<'a>(trees: &'a [Tree], into: &mut Vec<Mention<'a>>) -> Result<
 
 // Adds the leaves of a statement's expression.
 fn add_leaves_of<'a>(form: &'a Form, into: &mut Vec<Mention<'a>>) -> Result<(), OutOfMemory>
-    ensures { IfOk result (λ _. mentions_of into.new.items ≡ mentions_of into.old.items ++ leaves_of (plain_form form.now)) }
+    ensures { IfOk result (λ _. mentions_of into.new.items ≡ mentions_of into.old.items
+        ++ leaves_of (plain_form form.now)) }
 {
     match form {
         Form::HoldsFor(_, tree) => add_leaves(tree, into),
@@ -154,13 +162,16 @@ fn add_leaves_of<'a>(form: &'a Form, into: &mut Vec<Mention<'a>>) -> Result<(), 
     }
 }
 
-/// Puts the atoms of a statement, in the order of the text, in place of what was there, and says how many of them
-/// stand before the leaves of its expression.
+/// Puts the atoms of a statement, in the order of the text, in place of what was there, and says
+/// how many of them stand before the leaves of its expression.
 pub(crate) fn gather<'a>(form: &'a Form, into: &mut Vec<Mention<'a>>) -> Result<usize, OutOfMemory>
     ensures all { IfOk result (λ _. mentions_of into.new.items ≡ mentions (plain_form form.now)) }
     ensures within { IfOk result (λ others. others ≤ length into.new.items) }
-    ensures others { IfOk result (λ others. mentions_of (take others into.new.items) ≡ head_of (plain_form form.now) ++ flat_map body_mentions (conditions_of (plain_form form.now))) }
-    ensures leaves { IfOk result (λ others. mentions_of (drop others into.new.items) ≡ leaves_of (plain_form form.now)) }
+    ensures others { IfOk result (λ others. mentions_of (take others into.new.items)
+        ≡ head_of (plain_form form.now) ++ flat_map body_mentions
+        (conditions_of (plain_form form.now))) }
+    ensures leaves { IfOk result (λ others. mentions_of (drop others into.new.items)
+        ≡ leaves_of (plain_form form.now)) }
 {
     into.clear();
     if let Some(head) = head_of(form) {

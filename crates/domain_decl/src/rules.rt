@@ -1,12 +1,17 @@
 // The tests of rules.
-ghost use Rattle.std.specs.Prelude.{◌≡◌, ◌++◌, ◌≤◌, true, map, length, take, drop, flat_map, zip, option_copied};
+ghost use Rattle.std.specs.Prelude.{◌≡◌, ◌++◌, ◌≤◌, true, map, length, take, drop, flat_map, zip};
+ghost use Rattle.std.specs.Prelude.{option_copied};
 ghost use Rattle.std.specs.List.{list_any};
 ghost use Rattle.ground_types.specs.Sound.{is_distinct};
 ghost use Rattle.rule_read.specs.Forms.{plain_form, plain};
 ghost use Rattle.domain_decl.specs.Lists.{has, refused_at};
 ghost use Rattle.domain_decl.specs.Contents.{domain_words, name_words};
-ghost use Rattle.domain_decl.specs.Mentions.{fits, head_of, conditions_of, leaves_of, body_mentions, mentions};
-ghost use Rattle.domain_decl.specs.Rules.{has_too_many, begins_with_trigger, lacks_trigger, names_undeclared, is_of_wrong_kind, has_wrong_arity, is_foreign, lacks_value, has_undeclared_word, places, rule_fault, rule_refusal};
+ghost use Rattle.domain_decl.specs.Mentions.{fits, head_of, conditions_of, leaves_of};
+ghost use Rattle.domain_decl.specs.Mentions.{body_mentions, mentions};
+ghost use Rattle.domain_decl.specs.Rules.{has_too_many, begins_with_trigger, lacks_trigger};
+ghost use Rattle.domain_decl.specs.Rules.{names_undeclared, is_of_wrong_kind, has_wrong_arity};
+ghost use Rattle.domain_decl.specs.Rules.{is_foreign, lacks_value, has_undeclared_word, places};
+ghost use Rattle.domain_decl.specs.Rules.{rule_fault, rule_refusal};
 ghost use Rattle.domain_decl.specs.Accepted.{Tests};
 ghost use Rattle.domain_decl.specs.Gathered.{role_of, mention_of, mentions_of, places_of};
 
@@ -101,7 +106,8 @@ fn is_foreign(known: &Known, term: &Term, domain: u32) -> bool
 }
 
 fn has_foreign(known: &Known, terms: &[Term], domains: &[u32]) -> bool
-    ensures { result ≡ list_any (λ place. is_foreign known.now.domains.now place.0 place.1) (zip terms.now domains.now) }
+    ensures { result ≡ list_any (λ place. is_foreign known.now.domains.now place.0 place.1)
+        (zip terms.now domains.now) }
 {
     terms
         .iter()
@@ -110,7 +116,8 @@ fn has_foreign(known: &Known, terms: &[Term], domains: &[u32]) -> bool
 }
 
 fn has_undeclared_word(known: &Known, mention: &Mention) -> bool
-    ensures { result ≡ has_undeclared_word known.now.domains.now known.now.names.now (mention_of mention.now) }
+    ensures { result ≡ has_undeclared_word known.now.domains.now known.now.names.now
+        (mention_of mention.now) }
 {
     match known.declaration(&mention.atom.name) {
         Some(name) => {
@@ -124,7 +131,8 @@ fn has_undeclared_word(known: &Known, mention: &Mention) -> bool
 // ---- whether a test fails at an atom
 
 fn any_undeclared(known: &Known, mentions: &[Mention]) -> bool
-    ensures { result ≡ list_any (names_undeclared known.now.domains.now known.now.names.now) (mentions_of mentions.now) }
+    ensures { result ≡ list_any (names_undeclared known.now.domains.now known.now.names.now)
+        (mentions_of mentions.now) }
 {
     mentions
         .iter()
@@ -148,14 +156,16 @@ fn any_of_wrong_arity(known: &Known, mentions: &[Mention]) -> bool
 }
 
 fn any_undeclared_word(known: &Known, mentions: &[Mention]) -> bool
-    ensures { result ≡ list_any (has_undeclared_word known.now.domains.now known.now.names.now) (mentions_of mentions.now) }
+    ensures { result ≡ list_any (has_undeclared_word known.now.domains.now known.now.names.now)
+        (mentions_of mentions.now) }
 {
     mentions
         .iter()
         .any(|mention| has_undeclared_word(known, mention))
 }
 
-// Tests a statement whose atoms are these, so many of them before its leaves, and whose variables stand at these places.
+// Tests a statement whose atoms are these, so many of them before its leaves, and whose variables
+// stand at these places.
 fn test_parts(
     known: &Known,
     statement: &Statement,
@@ -165,10 +175,14 @@ fn test_parts(
 ) -> Result<(), DeclRefused>
     requires all { mentions_of atoms.now ≡ mentions (plain_form statement.now.form) }
     requires within { others ≤ length atoms.now }
-    requires others { mentions_of (take others atoms.now) ≡ head_of (plain_form statement.now.form) ++ flat_map body_mentions (conditions_of (plain_form statement.now.form)) }
-    requires leaves { mentions_of (drop others atoms.now) ≡ leaves_of (plain_form statement.now.form) }
-    requires places { places_of variables.now ≡ places known.now.names.now (plain_form statement.now.form) }
-    ensures { Tests result (refused_at (rule_fault known.now.domains.now known.now.names.now (plain_form statement.now.form)) statement.now.line None) }
+    requires others { mentions_of (take others atoms.now) ≡ head_of (plain_form statement.now.form)
+        ++ flat_map body_mentions (conditions_of (plain_form statement.now.form)) }
+    requires leaves { mentions_of (drop others atoms.now)
+        ≡ leaves_of (plain_form statement.now.form) }
+    requires places { places_of variables.now ≡ places known.now.names.now
+        (plain_form statement.now.form) }
+    ensures { Tests result (refused_at (rule_fault known.now.domains.now known.now.names.now
+        (plain_form statement.now.form)) statement.now.line None) }
 {
     let line = statement.line;
     let form = &statement.form;
@@ -206,14 +220,16 @@ fn test_rule<'a>(
     atoms: &mut Vec<Mention<'a>>,
     variables: &mut Vec<Place<'a>>,
 ) -> Result<(), DeclRefused>
-    ensures { Tests result (refused_at (rule_fault known.now.domains.now known.now.names.now (plain_form statement.now.form)) statement.now.line None) }
+    ensures { Tests result (refused_at (rule_fault known.now.domains.now known.now.names.now
+        (plain_form statement.now.form)) statement.now.line None) }
 {
     let others = gather(&statement.form, atoms)?;
     gather_places(known, atoms, variables)?;
     test_parts(known, statement, atoms, others, variables)
 }
 
-/// Tests the statements that define fluents and derived events, in the order of the text, over what is declared.
+/// Tests the statements that define fluents and derived events, in the order of the text, over what
+/// is declared.
 pub(crate) fn test_rules(
     alloc: Global,
     statements: &[Statement],

@@ -1,4 +1,5 @@
-// What no clause says: that the calls succeed, and which texts are refused, by descriptions made by hand.
+// What no clause says: that the calls succeed, and which texts are refused, by descriptions made by
+// hand.
 ghost use Rattle.std.specs.Prelude.{◌≡◌, true, ◌++◌, IfOk};
 ghost use Rattle.ground_types.specs.Sound.{is_distinct};
 ghost use Rattle.domain_decl.specs.Contents.{domain_words, name_words};
@@ -81,7 +82,8 @@ simple calm [true].
 
 // What is said of a text in two parts, which is one that is read.
 fn checked(alloc: Global, start: &str, end: &str) -> Result<Result<Checked, DeclRefused>, Fail>
-    ensures { IfOk result (λ answer. IfOk answer (λ found. is_distinct (domain_words found.domains ++ name_words found.names) ≡ true)) }
+    ensures { IfOk result (λ answer. IfOk answer (λ found. is_distinct (domain_words found.domains
+        ++ name_words found.names) ≡ true)) }
 {
     let mut text = String::from_str(alloc, start)?;
     text.push_str(end)?;
@@ -143,7 +145,8 @@ fn plans_and_declarations_are_tested(rt: HostRuntime) -> Result<(), Fail> {
             "input up.\ninput down.\nsimple on [true, true].",
             Some(DeclRefused::Twice { line: 6 }),
         ),
-        // Two faults: the plan comes first, then in a declaration what it has too many of, then the first declaration.
+        // Two faults: the plan comes first, then in a declaration what it has too many of, then the
+        // first declaration.
         ("window(10).\n", "simple on [true, true].", bad_plan),
         (
             LAMP_PLAN,

@@ -35,7 +35,8 @@ impl<'a> WordSet<'a> {
     /// Puts a word behind the others where it is not there, and says whether it was not.
     pub(crate) fn insert(&mut self, word: &'a str) -> Result<bool, OutOfMemory>
         ensures added { IfOk result (λ added. added ≡ not (has self.old word.now)) }
-        ensures words { IfOk result (λ added. self.new ≡ (if added then self.old ++ (word.now ∷ []) else self.old)) }
+        ensures words { IfOk result (λ added. self.new ≡ (if added then self.old ++ (word.now ∷ [])
+            else self.old)) }
     {
         let (_, added) = self.words.insert_full(word)?;
         Ok(added)

@@ -3,8 +3,8 @@ use Rattle.std.specs.Prelude.{ℕ, Bool, ◌==◌, if◌then◌else◌, List, []
 use Rattle.ground_types.specs.Touched.{differs}
 use Rattle.span_algebra.specs.Normal.{has}
 
--- what is kept of an event: the points at which it stands, and those at which its standing is another than when the store was
--- settled last
+-- what is kept of an event: the points at which it stands, and those at which its standing is
+-- another than when the store was settled last
 pub record Kept : Type 0 where
   pub points : List ℕ
   pub changed : List ℕ

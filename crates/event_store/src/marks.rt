@@ -1,5 +1,6 @@
 // What is kept of one event.
-ghost use Rattle.std.specs.Prelude.{◌≡◌, ◌==◌, ◌&&◌, ◌||◌, not, nat_lt, ℕ, false, [], filter, OnOk, OnErr, IfOk};
+ghost use Rattle.std.specs.Prelude.{◌≡◌, ◌==◌, ◌&&◌, ◌||◌, not, nat_lt, ℕ, false, [], filter, OnOk};
+ghost use Rattle.std.specs.Prelude.{OnErr, IfOk};
 ghost use Rattle.ground_types.specs.Touched.{differs};
 ghost use Rattle.span_algebra.specs.Normal.{IsRising, has};
 
@@ -9,8 +10,9 @@ use span_algebra::Points;
 use std::alloc::Global;
 use std::marker::Model;
 
-// The points at which an event stands, and those at which its standing is another than when the store was settled last. A point
-// that is added or taken away turns its mark: it is changed where it was not, and is no longer where it was.
+// The points at which an event stands, and those at which its standing is another than when the
+// store was settled last. A point that is added or taken away turns its mark: it is changed where
+// it was not, and is no longer where it was.
 #[derive(Drop)]
 pub struct Marks {
     pub points: Points,
@@ -64,8 +66,10 @@ impl Marks {
     // Lets it stand at a point, and says whether it did not before.
     pub fn add(&mut self, at: Point) -> Result<bool, OutOfMemory>
         ensures changed { IfOk result (λ changed. changed ≡ not (has self.old.points at)) }
-        ensures standing { OnOk result ((t : ℕ) → has self.new.points t ≡ (has self.old.points t || (t == at))) }
-        ensures settled { OnOk result ((t : ℕ) → differs (has self.new.points t) (has self.new.changed t) ≡ differs (has self.old.points t) (has self.old.changed t)) }
+        ensures standing { OnOk result ((t : ℕ) → has self.new.points t
+            ≡ (has self.old.points t || (t == at))) }
+        ensures settled { OnOk result ((t : ℕ) → differs (has self.new.points t)
+            (has self.new.changed t) ≡ differs (has self.old.points t) (has self.old.changed t)) }
         ensures refused { OnErr result (self.new ≡ self.old) }
     {
         if self.points.has(at) {
@@ -83,8 +87,10 @@ impl Marks {
     // Lets it stand no more at a point, and says whether it did.
     pub fn revoke(&mut self, at: Point) -> Result<bool, OutOfMemory>
         ensures changed { IfOk result (λ changed. changed ≡ has self.old.points at) }
-        ensures standing { OnOk result ((t : ℕ) → has self.new.points t ≡ (has self.old.points t && not (t == at))) }
-        ensures settled { OnOk result ((t : ℕ) → differs (has self.new.points t) (has self.new.changed t) ≡ differs (has self.old.points t) (has self.old.changed t)) }
+        ensures standing { OnOk result ((t : ℕ) → has self.new.points t
+            ≡ (has self.old.points t && not (t == at))) }
+        ensures settled { OnOk result ((t : ℕ) → differs (has self.new.points t)
+            (has self.new.changed t) ≡ differs (has self.old.points t) (has self.old.changed t)) }
         ensures refused { OnErr result (self.new ≡ self.old) }
     {
         if !self.points.has(at) {
@@ -101,7 +107,11 @@ impl Marks {
 
     // Forgets the points up to and with `w`.
     pub fn slide(&mut self, w: Point)
-        ensures { self.new ≡ record { points = filter (λ t. nat_lt w t) self.old.points; changed = filter (λ t. nat_lt w t) self.old.changed } }
+        ensures { self.new ≡ record {
+          points = filter (λ t. nat_lt w t) self.old.points;
+          changed =
+              filter (λ t. nat_lt w t) self.old.changed;
+        } }
     {
         self.points.drop_until(w);
         self.changed.drop_until(w);

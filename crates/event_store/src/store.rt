@@ -1,5 +1,6 @@
 // The store.
-ghost use Rattle.std.specs.Prelude.{◌≡◌, ◌==◌, ◌&&◌, ◌||◌, not, nat_lt, ℕ, false, [], OnOk, OnErr, IfOk};
+ghost use Rattle.std.specs.Prelude.{◌≡◌, ◌==◌, ◌&&◌, ◌||◌, not, nat_lt, ℕ, false, [], OnOk, OnErr};
+ghost use Rattle.std.specs.Prelude.{IfOk};
 ghost use Rattle.ground_types.specs.Touched.{differs};
 ghost use Rattle.span_algebra.specs.Normal.{has};
 ghost use Rattle.event_store.specs.Standing.{standing, stood};
@@ -12,8 +13,9 @@ use span_algebra::Points;
 use std::alloc::Global;
 use std::marker::Model;
 
-/// The input events that stand, and what changed of it since the store was settled last. Contracts see a list of events with
-/// the points at which each stands and those at which its standing has changed, in the order in which they were first told.
+/// The input events that stand, and what changed of it since the store was settled last. Contracts
+/// see a list of events with the points at which each stands and those at which its standing has
+/// changed, in the order in which they were first told.
 #[derive(Drop)]
 pub struct EventStore {
     alloc: Global,
@@ -46,11 +48,13 @@ impl EventStore {
         }
     }
 
-    /// Lets an event stand at `at`, a whole point of time, and says whether it did not before. One look-up by hash and a few
-    /// searches by halves. `OutOfMemory` leaves the store as it was.
+    /// Lets an event stand at `at`, a whole point of time, and says whether it did not before. One
+    /// look-up by hash and a few searches by halves. `OutOfMemory` leaves the store as it was.
     pub fn add(&mut self, event: EventId, at: Point) -> Result<bool, OutOfMemory>
-        ensures changed { IfOk result (λ changed. changed ≡ not (has (standing self.old event) at)) }
-        ensures standing { OnOk result ((e t : ℕ) → has (standing self.new e) t ≡ (has (standing self.old e) t || ((e == event) && (t == at)))) }
+        ensures changed { IfOk result (λ changed. changed
+            ≡ not (has (standing self.old event) at)) }
+        ensures standing { OnOk result ((e t : ℕ) → has (standing self.new e) t
+            ≡ (has (standing self.old e) t || ((e == event) && (t == at)))) }
         ensures settled { OnOk result ((e t : ℕ) → stood self.new e t ≡ stood self.old e t) }
         ensures refused { OnErr result (self.new ≡ self.old) }
     {
@@ -63,11 +67,12 @@ impl EventStore {
         Ok(true)
     }
 
-    /// Lets an event stand no more at `at`, a whole point of time, and says whether it did. One look-up by hash and a few searches
-    /// by halves. `OutOfMemory` leaves the store as it was.
+    /// Lets an event stand no more at `at`, a whole point of time, and says whether it did. One
+    /// look-up by hash and a few searches by halves. `OutOfMemory` leaves the store as it was.
     pub fn revoke(&mut self, event: EventId, at: Point) -> Result<bool, OutOfMemory>
         ensures changed { IfOk result (λ changed. changed ≡ has (standing self.old event) at) }
-        ensures standing { OnOk result ((e t : ℕ) → has (standing self.new e) t ≡ (has (standing self.old e) t && not ((e == event) && (t == at)))) }
+        ensures standing { OnOk result ((e t : ℕ) → has (standing self.new e) t
+            ≡ (has (standing self.old e) t && not ((e == event) && (t == at)))) }
         ensures settled { OnOk result ((e t : ℕ) → stood self.new e t ≡ stood self.old e t) }
         ensures refused { OnErr result (self.new ≡ self.old) }
     {
@@ -77,10 +82,11 @@ impl EventStore {
         Ok(false)
     }
 
-    /// Forgets every point up to and with `w`, a whole point of time: at none of them does an event stand, and at none did one.
-    /// One walk over all points that are kept; it takes no memory.
+    /// Forgets every point up to and with `w`, a whole point of time: at none of them does an event
+    /// stand, and at none did one. One walk over all points that are kept; it takes no memory.
     pub fn slide(&mut self, w: Point)
-        ensures standing { (e t : ℕ) → has (standing self.new e) t ≡ (nat_lt w t && has (standing self.old e) t) }
+        ensures standing { (e t : ℕ) → has (standing self.new e) t
+            ≡ (nat_lt w t && has (standing self.old e) t) }
         ensures settled { (e t : ℕ) → stood self.new e t ≡ (nat_lt w t && stood self.old e t) }
     {
         self.by_event.retain(|_, kept| {
@@ -89,7 +95,8 @@ impl EventStore {
         });
     }
 
-    /// Takes what stands now for what stood: nothing has changed since. One walk over the events; it takes no memory.
+    /// Takes what stands now for what stood: nothing has changed since. One walk over the events;
+    /// it takes no memory.
     pub fn settle(&mut self)
         ensures standing { (e : ℕ) → standing self.new e ≡ standing self.old e }
         ensures settled { (e t : ℕ) → stood self.new e t ≡ has (standing self.old e) t }
@@ -111,10 +118,11 @@ impl EventStore {
         }
     }
 
-    /// The points at which an event stands and did not when the store was settled last, and those at which it stood and does
-    /// no more. One look-up by hash; it takes no memory.
+    /// The points at which an event stands and did not when the store was settled last, and those
+    /// at which it stood and does no more. One look-up by hash; it takes no memory.
     pub fn changed(&self, event: EventId) -> &Points
-        ensures { (t : ℕ) → has result.now t ≡ differs (has (standing self.now event) t) (stood self.now event t) }
+        ensures { (t : ℕ) → has result.now t ≡ differs (has (standing self.now event) t)
+            (stood self.now event t) }
     {
         match self.by_event.get(&event) {
             Some(kept) => &kept.changed,

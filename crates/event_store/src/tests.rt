@@ -1,4 +1,5 @@
-// What no clause says: that an event is added and revoked with ample memory, and what stands and has changed after a row of calls.
+// What no clause says: that an event is added and revoked with ample memory, and what stands and
+// has changed after a row of calls.
 use crate::EventStore;
 use rt_base::OutOfMemory;
 use std::alloc::Global;
@@ -49,7 +50,8 @@ fn an_event_is_new_at_a_point_once(rt: HostRuntime) -> Result<(), Fail> {
     Ok(())
 }
 
-// One point that is told late and one that is taken back; what is taken back and told again has not changed.
+// One point that is told late and one that is taken back; what is taken back and told again has not
+// changed.
 #[test]
 fn what_changed_is_known_until_it_is_turned_back(rt: HostRuntime) -> Result<(), Fail> {
     let mut store = settled(rt.alloc())?;

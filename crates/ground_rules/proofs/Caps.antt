@@ -1,6 +1,8 @@
 -- Numbers that stop at the greatest u64: sums and products may stop at each step.
-use Rattle.std.proofs.Common.{◌≡◌, ℕ, zero, suc, ◌+◌, ◌-◌, ◌*◌, ◌^◌, ◌<◌, ◌≤◌, min, Bool, true, false, ltb, refl, sym, ◌∙◌, ap, arith}
-use Rattle.std.proofs.Math.Nat.{min-eq_left, min-eq_right, min-le_left, le-min, mul-zero, le-mul_of_pos_right}
+use Rattle.std.proofs.Common.{◌≡◌, ℕ, zero, suc, ◌+◌, ◌-◌, ◌*◌, ◌^◌, ◌<◌, ◌≤◌, min, Bool, true}
+use Rattle.std.proofs.Common.{false, ltb, refl, sym, ◌∙◌, ap, arith}
+use Rattle.std.proofs.Math.Nat.{min-eq_left, min-eq_right, min-le_left, le-min, mul-zero}
+use Rattle.std.proofs.Math.Nat.{le-mul_of_pos_right}
 use Rattle.std.proofs.lemmas.Bool.{ltb-true, ltb-false, lt-ltb, le-ltb}
 use Rattle.ground_rules.specs.Counted.{capped}
 
@@ -53,11 +55,13 @@ mul_swap a b = grind arith
 -- both parts of a sum may stop
 pub capped_add_both : (a b : ℕ) → capped (capped a + capped b) ≡ capped (a + b)
 capped_add_both a b =
-    capped_add a (capped b) ∙ ap capped (add_swap a (capped b)) ∙ capped_add b a ∙ ap capped (add_swap b a)
+    capped_add a (capped b) ∙ ap capped (add_swap a (capped b)) ∙ capped_add b a
+    ∙ ap capped (add_swap b a)
 
 pub capped_mul_both : (a b : ℕ) → capped (capped a * capped b) ≡ capped (a * b)
 capped_mul_both a b =
-    capped_mul a (capped b) ∙ ap capped (mul_swap a (capped b)) ∙ capped_mul b a ∙ ap capped (mul_swap b a)
+    capped_mul a (capped b) ∙ ap capped (mul_swap a (capped b)) ∙ capped_mul b a
+    ∙ ap capped (mul_swap b a)
 
 pub capped_mul_right : (a b : ℕ) → capped (a * capped b) ≡ capped (a * b)
 capped_mul_right a b = ap capped (mul_swap a (capped b)) ∙ capped_mul b a ∙ ap capped (mul_swap b a)
@@ -67,7 +71,8 @@ pub capped_small : (n : ℕ) → n < 2 ^ 64 → capped n ≡ n
 capped_small n small = min-eq_left (omega (arith, small))
 
 -- a limit is exceeded where it is after stopping
-pub capped_over : (over : Bool) (most n : ℕ) → most < 2 ^ 64 - 1 → ltb most n ≡ over → ltb most (capped n) ≡ over
+pub capped_over : (over : Bool) (most n : ℕ) → most < 2 ^ 64 - 1 → ltb most n ≡ over
+    → ltb most (capped n) ≡ over
 capped_over true most n small e =
     let over : most < n = ltb-true most n e in
     lt-ltb most (capped n) (le-min (omega (arith, over)) (omega (arith, small)))

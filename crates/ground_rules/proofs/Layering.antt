@@ -1,5 +1,8 @@
 -- The layers of a grounded program are in order.
-use Rattle.std.proofs.Common.{◌≡◌, inl, inr, ℕ, zero, suc, ◌+◌, ◌<◌, ◌≤◌, max, true, false, true≢false, ◌==◌, List, [], ◌∷◌, map, flat_map, fold, length, slice_get, slice_index_or, Some, refl, sym, ap, subst, ◌∙◌, arith, if◌then◌else◌}
+use Rattle.std.proofs.Common.{◌≡◌, inl, inr, ℕ, zero, suc, ◌+◌, ◌<◌, ◌≤◌, max, true, false}
+use Rattle.std.proofs.Common.{true≢false, ◌==◌, List, [], ◌∷◌, map, flat_map, fold, length}
+use Rattle.std.proofs.Common.{slice_get, slice_index_or, Some, refl, sym, ap, subst, ◌∙◌, arith}
+use Rattle.std.proofs.Common.{if◌then◌else◌}
 use Rattle.std.proofs.lemmas.Bool.{eqb-true, or_left, or_right, or_cases}
 use Rattle.std.proofs.lemmas.List.{length-map}
 use Rattle.std.proofs.lemmas.List.Folds.{list_any-append}
@@ -15,12 +18,14 @@ use Rattle.ground_types.specs.declared.program.Name.{Name}
 use Rattle.ground_types.specs.declared.program.NameKind.{NameKind}
 use Rattle.ground_types.specs.declared.program.NameKind.TheVariants as name_kind
 use Rattle.ground_types.specs.declared.program.Program.{Program}
-use Rattle.rule_read.specs.Forms.{PlainForm, PlainStatement, plain, Initially, Initiated, Terminated, Happens, HoldsFor}
+use Rattle.rule_read.specs.Forms.{PlainForm, PlainStatement, plain, Initially, Initiated}
+use Rattle.rule_read.specs.Forms.{Terminated, Happens, HoldsFor}
 use Rattle.rule_read.specs.Sound.{AllOf}
 use Rattle.domain_decl.specs.declared.checked.Checked.{Checked}
 use Rattle.domain_decl.specs.Lists.{has, place_in}
 use Rattle.domain_decl.specs.Contents.{name_words, is_rule}
-use Rattle.domain_decl.specs.Mentions.{SimpleFluent, StaticFluent, DerivedEvent, Mention, fits, fluent_value, event_atom, head_of, mentions}
+use Rattle.domain_decl.specs.Mentions.{SimpleFluent, StaticFluent, DerivedEvent, Mention, fits}
+use Rattle.domain_decl.specs.Mentions.{fluent_value, event_atom, head_of, mentions}
 use Rattle.domain_decl.specs.Accepted.{plain_checked}
 use Rattle.domain_decl.specs.Rules.{declaration}
 use Rattle.domain_decl.specs.Sound.{IsSound as IsSoundChecked}
@@ -31,8 +36,11 @@ use Rattle.strata_check.proofs.Places.{same_word, equal_word, word_there, word_o
 use Rattle.ground_rules.specs.Numbers.{with_first, numbered}
 use Rattle.ground_rules.specs.Assignments.{Clause, Instance, assignments, is_permitted, instances}
 use Rattle.ground_rules.specs.Atoms.{ground_atom, ground_args, unit_by, head_unit}
-use Rattle.ground_rules.specs.Grounded.{PlainUnit, plain_unit, PlainProgram, plain_program, instances_at, units_of, greatest_layer, unit_layer, clauses_of, numbered_names, clauses, grounded}
-use Rattle.ground_rules.proofs.Members.{In, member_of, all_members, all_filter, all_map, all_flat_map, in_front, in_back}
+use Rattle.ground_rules.specs.Grounded.{PlainUnit, plain_unit, PlainProgram, plain_program}
+use Rattle.ground_rules.specs.Grounded.{instances_at, units_of, greatest_layer, unit_layer}
+use Rattle.ground_rules.specs.Grounded.{clauses_of, numbered_names, clauses, grounded}
+use Rattle.ground_rules.proofs.Members.{In, member_of, all_members, all_filter, all_map}
+use Rattle.ground_rules.proofs.Members.{all_flat_map, in_front, in_back}
 use Rattle.ground_rules.proofs.InOrder.{keys_in_order}
 use Rattle.ground_rules.proofs.Mentioned.{Grounds, IsGround, instances_ground}
 use Rattle.ground_rules.proofs.Named.{IsNamed, behind, in_filter, kind_named}
@@ -42,44 +50,65 @@ use Rattle.ground_rules.proofs.UnitsAt.{unit_of, unit_at, unit_found}
 
 -- ---- words in the bodies of a name
 
-has_of_mention : (ms : List Mention) (m : Mention) → In m ms → has (map (λ k. k.atom.name) ms) m.atom.name ≡ true
+has_of_mention : (ms : List Mention) (m : Mention) → In m ms → has (map (λ k. k.atom.name) ms)
+    m.atom.name ≡ true
 has_of_mention [] m i = absurd i
 has_of_mention (k ∷ ms) m (inl e) =
-    or_left (bytes_eq k.atom.name m.atom.name) (has (map (λ j. j.atom.name) ms) m.atom.name) (equal_word k.atom.name m.atom.name (ap (λ (j : Mention). j.atom.name) e))
-has_of_mention (k ∷ ms) m (inr i) = or_right (bytes_eq k.atom.name m.atom.name) (has (map (λ j. j.atom.name) ms) m.atom.name) (has_of_mention ms m i)
+    or_left (bytes_eq k.atom.name m.atom.name) (has (map (λ j. j.atom.name) ms) m.atom.name)
+    (equal_word k.atom.name m.atom.name (ap (λ (j : Mention). j.atom.name) e))
+has_of_mention (k ∷ ms) m (inr i) = or_right (bytes_eq k.atom.name m.atom.name)
+    (has (map (λ j. j.atom.name) ms) m.atom.name) (has_of_mention ms m i)
 
 module _ (word other : List ℕ) where
   abbrev from_rule : PlainForm → List (List ℕ)
   from_rule form = if defines word form then body_of form else []
 
   -- what stands in a body of a rule for a word occurs in the bodies of the word
-  occurs_by_rule : (rules : List PlainStatement) (s : PlainStatement) → In s rules → defines word s.form ≡ true → has (body_of s.form) other ≡ true → occurs rules other word ≡ true
+  occurs_by_rule : (rules : List PlainStatement) (s : PlainStatement) → In s rules
+      → defines word s.form ≡ true → has (body_of s.form) other ≡ true → occurs rules other word
+      ≡ true
   occurs_by_rule [] s i d h = absurd i
   occurs_by_rule (r ∷ rules) s (inl e) d h =
       list_any-append (λ o. bytes_eq o other) (from_rule r.form) (bodies_of rules word)
       ∙ or_left (has (from_rule r.form) other) (has (bodies_of rules word) other)
-      (ap (λ (x : PlainStatement). has (from_rule x.form) other) e ∙ ap (λ b. has (if b then body_of s.form else []) other) d ∙ h)
+      (ap (λ (x : PlainStatement). has (from_rule x.form) other) e
+      ∙ ap (λ b. has (if b then body_of s.form else []) other) d ∙ h)
   occurs_by_rule (r ∷ rules) s (inr i) d h =
       list_any-append (λ o. bytes_eq o other) (from_rule r.form) (bodies_of rules word)
-      ∙ or_right (has (from_rule r.form) other) (has (bodies_of rules word) other) (occurs_by_rule rules s i d h)
+      ∙ or_right (has (from_rule r.form) other) (has (bodies_of rules word) other)
+      (occurs_by_rule rules s i d h)
 
 -- ---- instances are of rules
 
 -- what stands in the bodies of an instance occurs in the bodies of the name that it defines
 abbrev IsOfRules : List PlainStatement → Instance → Type 0
-IsOfRules rules i = (word other : List ℕ) → defines word i.clause.form ≡ true → has (body_of i.clause.form) other ≡ true → occurs rules other word ≡ true
+IsOfRules rules i = (word other : List ℕ) → defines word i.clause.form ≡ true
+    → has (body_of i.clause.form) other ≡ true → occurs rules other word ≡ true
 
-of_rules : (domains : List Domain) (names : List Name) (rules : List PlainStatement) → AllOf (IsOfRules rules) (flat_map instances (clauses_of domains names rules))
+of_rules : (domains : List Domain) (names : List Name) (rules : List PlainStatement)
+    → AllOf (IsOfRules rules) (flat_map instances (clauses_of domains names rules))
 of_rules domains names rules =
     all_flat_map (IsOfRules rules) instances (clauses_of domains names rules)
-    (all_map (λ (clause : Clause). AllOf (IsOfRules rules) (instances clause)) (λ (s : PlainStatement). record { domains = domains; names = names; form = s.form }) rules
-    (all_members (λ s. AllOf (IsOfRules rules) (instances (record { domains = domains; names = names; form = s.form }))) rules (λ s i.
+    (all_map (λ (clause : Clause). AllOf (IsOfRules rules) (instances clause))
+    (λ (s : PlainStatement). record { domains = domains; names = names; form = s.form }) rules
+    (all_members (λ s. AllOf (IsOfRules rules)
+    (instances (record { domains = domains; names = names; form = s.form }))) rules (λ s i.
     (let clause : Clause = record { domains = domains; names = names; form = s.form } in
-    all_filter (IsOfRules rules) is_permitted (map (λ assignment. record { clause = clause; assignment = assignment }) (assignments clause))
-    (all_map (IsOfRules rules) (λ assignment. record { clause = clause; assignment = assignment }) (assignments clause) (each (assignments clause) clause (λ word other. occurs_by_rule word other rules s i)))))))
+    all_filter (IsOfRules rules) is_permitted
+    (map (λ assignment. record { clause = clause; assignment = assignment })
+    (assignments clause))
+    (all_map (IsOfRules rules) (λ assignment. record { clause = clause; assignment = assignment })
+    (assignments clause) (each (assignments clause) clause (λ word other. occurs_by_rule word
+    other rules s i)))))))
   where
-    each : (list : List (List ℕ)) (clause : Clause) → ((word other : List ℕ) → defines word clause.form ≡ true → has (body_of clause.form) other ≡ true → occurs rules other word ≡ true)
-        → AllOf (λ (assignment : List ℕ). IsOfRules rules (record { clause = clause; assignment = assignment })) list
+    each : (list : List (List ℕ)) (clause : Clause)
+        → ((word other : List ℕ) → defines word clause.form ≡ true → has (body_of clause.form) other
+        ≡ true → occurs rules other word ≡ true)
+        → AllOf (λ (assignment : List ℕ). IsOfRules rules (record {
+          clause = clause;
+          assignment =
+              assignment;
+        })) list
     each [] clause f = tt
     each (assignment ∷ list) clause f = (f, each list clause f)
 
@@ -105,11 +134,36 @@ derived_kind name_kind.Input e = absurd (true≢false (sym e))
 derived_kind kind e = refl
 
 has_unit : (i : Instance) (form : PlainForm) → is_rule form ≡ true → HasUnit i form
-has_unit i (Initially fv) is = record { head = fluent_value SimpleFluent fv; only = refl; unit = refl; computed = simple_kind }
-has_unit i (Initiated fv bodies) is = record { head = fluent_value SimpleFluent fv; only = refl; unit = refl; computed = simple_kind }
-has_unit i (Terminated fv bodies) is = record { head = fluent_value SimpleFluent fv; only = refl; unit = refl; computed = simple_kind }
-has_unit i (Happens atom bodies) is = record { head = event_atom DerivedEvent atom; only = refl; unit = refl; computed = derived_kind }
-has_unit i (HoldsFor fv e) is = record { head = fluent_value StaticFluent fv; only = refl; unit = refl; computed = static_kind }
+has_unit i (Initially fv) is = record {
+  head = fluent_value SimpleFluent fv;
+  only = refl;
+  unit = refl;
+  computed = simple_kind;
+}
+has_unit i (Initiated fv bodies) is = record {
+  head = fluent_value SimpleFluent fv;
+  only = refl;
+  unit = refl;
+  computed = simple_kind;
+}
+has_unit i (Terminated fv bodies) is = record {
+  head = fluent_value SimpleFluent fv;
+  only = refl;
+  unit = refl;
+  computed = simple_kind;
+}
+has_unit i (Happens atom bodies) is = record {
+  head = event_atom DerivedEvent atom;
+  only = refl;
+  unit = refl;
+  computed = derived_kind;
+}
+has_unit i (HoldsFor fv e) is = record {
+  head = fluent_value StaticFluent fv;
+  only = refl;
+  unit = refl;
+  computed = static_kind;
+}
 has_unit i form is = absurd (true≢false (sym is))
 
 -- ---- layers of names
@@ -124,10 +178,12 @@ each_most start [] place = omega arith
 each_most start (n ∷ ns) zero = let rest = start_most (max start n) ns in omega (arith, rest)
 each_most start (n ∷ ns) (suc place) = each_most (max start n) ns place
 
-among_greatest : (f : List ℕ → ℕ) (words : List (List ℕ)) (word : List ℕ) → has words word ≡ true → f word ≤ greatest (map f words)
+among_greatest : (f : List ℕ → ℕ) (words : List (List ℕ)) (word : List ℕ) → has words word ≡ true
+    → f word ≤ greatest (map f words)
 among_greatest f [] word is = absurd (true≢false (sym is))
 among_greatest f (w ∷ words) word is = elim (or_cases (bytes_eq w word) (has words word) is) [
-  | inl here ↦ (let same : f w ≡ f word = ap f (same_word w word here) in omega (arith, greatest_cons (f w) (map f words), same))
+  | inl here ↦ (let same : f w ≡ f word = ap f (same_word w word here) in
+      omega (arith, greatest_cons (f w) (map f words), same))
   | inr later ↦ omega (arith, greatest_cons (f w) (map f words), among_greatest f words word later)
 ]
 
@@ -138,37 +194,62 @@ record IsNumbered (names : List Name) (place : ℕ) (name : Name) : Type 0 where
   pub word : name.word ≡ declared.word
   pub kind : name.kind ≡ declared.kind
 
-numbered_at : (domains : List Domain) (event unit : ℕ) (names : List Name) (place : ℕ) (name : Name) → slice_get (numbered domains event unit names) place ≡ Some name → IsNumbered names place name
+numbered_at : (domains : List Domain) (event unit : ℕ) (names : List Name) (place : ℕ)
+    (name : Name) → slice_get (numbered domains event unit names) place ≡ Some name
+    → IsNumbered names place name
 numbered_at domains event unit [] place name at = absurd (cc)
 numbered_at domains event unit (n ∷ names) zero name at =
-    let same : with_first (if is_input n.kind then event else unit) n ≡ name = same_Some (with_first (if is_input n.kind then event else unit) n) name at in
-    record { declared = n; at = refl; word = ap (λ (m : Name). m.word) (sym same); kind = ap (λ (m : Name). m.kind) (sym same) }
+    let same : with_first (if is_input n.kind then event else unit) n ≡ name =
+    same_Some (with_first (if is_input n.kind then event else unit) n) name at in
+    record {
+      declared = n;
+      at = refl;
+      word = ap (λ (m : Name). m.word) (sym same);
+      kind = ap (λ (m : Name). m.kind) (sym same);
+    }
 numbered_at domains event unit (n ∷ names) (suc place) name at =
-    let rest = numbered_at domains (if is_input n.kind then event + length (arguments_of domains n) else event) (if is_input n.kind then unit else unit + length (arguments_of domains n)) names place name at in
+    let rest = numbered_at domains (if is_input n.kind then event + length (arguments_of domains n)
+    else event) (if is_input n.kind then unit else unit + length (arguments_of domains n)) names
+    place name at in
     record { declared = rest.declared; at = rest.at; word = rest.word; kind = rest.kind }
 
-module _ (checked : Checked) (of_name : List ℕ) (layering : IsLayering (map plain checked.rules) checked.names of_name) where
+module _ (checked : Checked) (of_name : List ℕ) (layering : IsLayering (map plain checked.rules)
+    checked.names of_name) where
   abbrev rules : List PlainStatement
   rules = map plain checked.rules
 
   abbrev names : List Name
   names = numbered_names (plain_checked checked)
 
-  layer_is : (place : ℕ) (name : Name) → slice_get names place ≡ Some name → is_input name.kind ≡ false
-      → slice_index_or of_name place 0 ≡ suc (greatest (map (layer_of checked.names of_name) (bodies_of rules name.word)))
+  layer_is : (place : ℕ) (name : Name) → slice_get names place ≡ Some name → is_input name.kind
+      ≡ false
+      → slice_index_or of_name place 0 ≡ suc
+      (greatest (map (layer_of checked.names of_name) (bodies_of rules name.word)))
   layer_is place name at computed =
       let is = numbered_at checked.domains 0 0 checked.names place name at in
-      get_or_from_slice_get of_name place (layer_by rules checked.names of_name is.declared) 0 (layering.each place is.declared is.at)
-      ∙ ap (λ b. if b then 0 else suc (greatest (map (layer_of checked.names of_name) (bodies_of rules is.declared.word)))) (sym (ap is_input is.kind) ∙ computed)
-      ∙ ap (λ word. suc (greatest (map (layer_of checked.names of_name) (bodies_of rules word)))) (sym is.word)
+      get_or_from_slice_get of_name place (layer_by rules checked.names of_name is.declared) 0
+      (layering.each place is.declared is.at)
+      ∙ ap (λ b. if b then 0 else suc (greatest (map (layer_of checked.names of_name)
+      (bodies_of rules is.declared.word)))) (sym (ap is_input is.kind) ∙ computed)
+      ∙ ap (λ word. suc (greatest (map (layer_of checked.names of_name) (bodies_of rules word))))
+      (sym is.word)
 
   -- a name that occurs in the bodies of another has a smaller layer
-  layer_falls : (place : ℕ) (name : Name) → slice_get names place ≡ Some name → is_input name.kind ≡ false → (other : List ℕ) (lower : ℕ) → place_in (name_words names) other ≡ Some lower
-      → occurs rules other name.word ≡ true → slice_index_or of_name lower 0 < slice_index_or of_name place 0
+  layer_falls : (place : ℕ) (name : Name) → slice_get names place ≡ Some name → is_input name.kind
+      ≡ false → (other : List ℕ) (lower : ℕ) → place_in (name_words names) other ≡ Some lower
+      → occurs rules other name.word ≡ true → slice_index_or of_name lower 0 < slice_index_or
+      of_name place 0
   layer_falls place name at computed other lower placed occurs_in =
       let there : layer_of checked.names of_name other ≡ slice_index_or of_name lower 0 =
-      ap (layer_at of_name) (sym (ap (λ words. place_in words other) (same_words checked.domains 0 0 checked.names)) ∙ placed) in
-      omega (arith, layer_is place name at computed, there, among_greatest (layer_of checked.names of_name) (bodies_of rules name.word) other occurs_in)
+      ap (layer_at of_name) (sym (ap (λ words. place_in words other) (same_words checked.domains 0
+      0 checked.names)) ∙ placed) in
+      omega (
+        arith,
+        layer_is place name at computed,
+        there,
+        among_greatest (layer_of checked.names of_name) (bodies_of rules name.word) other
+            occurs_in,
+      )
 
   module _ (sound : IsSoundChecked checked) where
     abbrev all : List Instance
@@ -185,24 +266,31 @@ module _ (checked : Checked) (of_name : List ℕ) (layering : IsLayering (map pl
     IsLower x other = (y : PlainUnit) × (slice_get units other ≡ Some y) × (key y < key x)
 
     -- what an instance that defines a unit names is of a smaller layer
-    module _ (i : Instance) (ground : IsGround checked.domains names i) (of : IsOfRules rules i) (unit : ℕ) (x : PlainUnit) (at : slice_get units unit ≡ Some x) (head_is : head_unit i ≡ unit)
+    module _ (i : Instance) (ground : IsGround checked.domains names i) (of : IsOfRules rules i)
+        (unit : ℕ) (x : PlainUnit) (at : slice_get units unit ≡ Some x) (head_is : head_unit i
+        ≡ unit)
         (other : ℕ) (named : IsNamed i (behind i.clause.form) other) where
       h : HasUnit i i.clause.form
       h = has_unit i i.clause.form ground.rule
 
       head_grounds : Grounds checked.domains names i h.head
-      head_grounds = member_of (Grounds checked.domains names i) (mentions i.clause.form) ground.mentioned h.head
-          (in_front h.head (head_of i.clause.form) (behind i.clause.form) (subst (In h.head) (sym h.only) (inl refl)))
+      head_grounds = member_of (Grounds checked.domains names i) (mentions i.clause.form)
+          ground.mentioned h.head
+          (in_front h.head (head_of i.clause.form) (behind i.clause.form)
+          (subst (In h.head) (sym h.only) (inl refl)))
 
       body_grounds : Grounds checked.domains names i named.mention
-      body_grounds = member_of (Grounds checked.domains names i) (mentions i.clause.form) ground.mentioned named.mention
+      body_grounds = member_of (Grounds checked.domains names i) (mentions i.clause.form)
+          ground.mentioned named.mention
           (in_back named.mention (head_of i.clause.form) (behind i.clause.form) named.among)
 
       head_computed : is_input head_grounds.name.kind ≡ false
       head_computed = h.computed head_grounds.name.kind head_grounds.kind
 
       body_computed : is_input body_grounds.name.kind ≡ false
-      body_computed = named.computed body_grounds.name (ap (λ ns. declaration ns named.mention.atom.name) ground.names_are ∙ body_grounds.found) body_grounds.kind
+      body_computed = named.computed body_grounds.name
+          (ap (λ ns. declaration ns named.mention.atom.name) ground.names_are ∙ body_grounds.found)
+          body_grounds.kind
 
       -- the unit is one of the name in the head
       head_args : List ℕ
@@ -211,13 +299,18 @@ module _ (checked : Checked) (of_name : List ℕ) (layering : IsLayering (map pl
       head_number : head_grounds.name.first + head_grounds.number ≡ unit
       head_number = sym head_grounds.atom ∙ sym h.unit ∙ head_is
 
-      head_at : slice_get units (head_grounds.name.first + head_grounds.number) ≡ Some (unit_of all head_grounds.place head_grounds.name head_args (head_grounds.name.first + head_grounds.number))
+      head_at : slice_get units (head_grounds.name.first + head_grounds.number)
+          ≡ Some (unit_of all head_grounds.place head_grounds.name head_args
+          (head_grounds.name.first + head_grounds.number))
       unfolding head_args
-      head_at = unit_at checked.domains checked.names all head_grounds.place head_grounds.name head_grounds.number head_args head_grounds.at head_computed head_grounds.args
+      head_at = unit_at checked.domains checked.names all head_grounds.place head_grounds.name
+          head_grounds.number head_args head_grounds.at head_computed head_grounds.args
 
       head_place : head_grounds.place ≡ x.name
       head_place = ap (λ (u : PlainUnit). u.name)
-          (same_Some (unit_of all head_grounds.place head_grounds.name head_args (head_grounds.name.first + head_grounds.number)) x (sym head_at ∙ ap (slice_get units) head_number ∙ at))
+          (same_Some (unit_of all head_grounds.place head_grounds.name head_args
+          (head_grounds.name.first + head_grounds.number)) x (sym head_at
+          ∙ ap (slice_get units) head_number ∙ at))
 
       -- and the other one of the name in the body
       body_number : ℕ
@@ -226,29 +319,38 @@ module _ (checked : Checked) (of_name : List ℕ) (layering : IsLayering (map pl
       body_args : List ℕ
       body_args = ground_args i body_grounds.name named.mention.atom.args
 
-      body_at : slice_get units other ≡ Some (unit_of all body_grounds.place body_grounds.name body_args body_number)
+      body_at : slice_get units other ≡ Some (unit_of all body_grounds.place body_grounds.name
+          body_args body_number)
       unfolding body_args body_number
       body_at =
           ap (slice_get units) (named.is ∙ body_grounds.atom)
-          ∙ unit_at checked.domains checked.names all body_grounds.place body_grounds.name body_grounds.number body_args body_grounds.at body_computed body_grounds.args
+          ∙ unit_at checked.domains checked.names all body_grounds.place body_grounds.name
+          body_grounds.number body_args body_grounds.at body_computed body_grounds.args
 
       -- the name in the body occurs in the bodies of the name in the head
       head_word : h.head.atom.name ≡ head_grounds.name.word
       head_word = same_Some h.head.atom.name head_grounds.name.word
-          (sym (word_there (name_words names) head_grounds.place h.head.atom.name head_grounds.placed) ∙ word_of_name names head_grounds.place head_grounds.name head_grounds.at)
+          (sym (word_there (name_words names) head_grounds.place h.head.atom.name
+          head_grounds.placed) ∙ word_of_name names head_grounds.place head_grounds.name
+          head_grounds.at)
 
       occurs_here : occurs rules named.mention.atom.name h.head.atom.name ≡ true
       occurs_here = of h.head.atom.name named.mention.atom.name
-          (ap (list_any (λ m. bytes_eq m.atom.name h.head.atom.name)) h.only ∙ or_left (bytes_eq h.head.atom.name h.head.atom.name) false (equal_word h.head.atom.name h.head.atom.name refl))
+          (ap (list_any (λ m. bytes_eq m.atom.name h.head.atom.name)) h.only
+          ∙ or_left (bytes_eq h.head.atom.name h.head.atom.name) false
+          (equal_word h.head.atom.name h.head.atom.name refl))
           (has_of_mention (behind i.clause.form) named.mention named.among)
 
       named_lower : IsLower x other
       named_lower = (
         unit_of all body_grounds.place body_grounds.name body_args body_number,
         body_at,
-        subst (λ place. slice_index_or of_name body_grounds.place 0 < slice_index_or of_name place 0) head_place
-            (layer_falls head_grounds.place head_grounds.name head_grounds.at head_computed named.mention.atom.name body_grounds.place body_grounds.placed
-            (subst (λ word. occurs rules named.mention.atom.name word ≡ true) head_word occurs_here)),
+        subst (λ place. slice_index_or of_name body_grounds.place 0 < slice_index_or of_name place
+            0) head_place
+            (layer_falls head_grounds.place head_grounds.name head_grounds.at head_computed
+            named.mention.atom.name body_grounds.place body_grounds.placed
+            (subst (λ word. occurs rules named.mention.atom.name word ≡ true) head_word
+            occurs_here)),
       )
 
     layer_of_unit : (unit : ℕ) (x : PlainUnit) → slice_get units unit ≡ Some x → 1 ≤ key x
@@ -256,19 +358,25 @@ module _ (checked : Checked) (of_name : List ℕ) (layering : IsLayering (map pl
         let is = unit_found checked.domains checked.names all unit x at in
         omega (arith, layer_is x.name is.name is.at is.computed)
 
-    module _ (program : Program) (is_grounded : plain_program program ≡ grounded (plain_checked checked) of_name) where
+    module _ (program : Program) (is_grounded : plain_program program
+        ≡ grounded (plain_checked checked) of_name) where
       units_are : map plain_unit program.units ≡ units
       units_are = ap (λ (p : PlainProgram). p.units) is_grounded
 
       -- what a unit of the program names is of smaller layers
-      lower : (unit : ℕ) (x : PlainUnit) → slice_get units unit ≡ Some x → (other : ℕ) → contains (units_of_kind (kind_of program unit)) other ≡ true → IsLower x other
+      lower : (unit : ℕ) (x : PlainUnit) → slice_get units unit ≡ Some x → (other : ℕ)
+          → contains (units_of_kind (kind_of program unit)) other ≡ true → IsLower x other
       lower unit x at other is =
-          let plain_is = named_by_plain program unit x (ap (λ l. slice_get l unit) units_are ∙ at) in
+          let plain_is = named_by_plain program unit x (ap (λ l. slice_get l unit) units_are ∙ at)
+          in
           let found = unit_found checked.domains checked.names all unit x at in
-          let by = kind_named found.name.kind (length found.name.values) (instances_at unit all) other
-          (sym (ap (λ k. contains (units_in_kind k) other) found.kind) ∙ sym (ap (λ l. contains l other) plain_is) ∙ is) in
+          let by = kind_named found.name.kind (length found.name.values) (instances_at unit all)
+          other
+          (sym (ap (λ k. contains (units_in_kind k) other) found.kind)
+          ∙ sym (ap (λ l. contains l other) plain_is) ∙ is) in
           let mine = in_filter (λ i. head_unit i == unit) all by.one by.among in
-          named_lower by.one (member_of (IsGround checked.domains names) all (instances_ground checked sound) by.one mine.0)
+          named_lower by.one (member_of (IsGround checked.domains names) all
+          (instances_ground checked sound) by.one mine.0)
           (member_of (IsOfRules rules) all (of_rules checked.domains names rules) by.one mine.0)
           unit x at (eqb-true (head_unit by.one) unit mine.1) other by.named
 

@@ -1,5 +1,8 @@
 -- Facts about each member of a list.
-use Rattle.std.proofs.Common.{◌≡◌, ◌⊎◌, inl, inr, ℕ, zero, suc, Bool, true, false, true≢false, not, cond, ◌||◌, ◌&&◌, List, [], ◌∷◌, ◌++◌, map, flat_map, filter, filter_map, find, slice_get, Option, Some, None, refl, sym, ap, subst, ◌∙◌}
+use Rattle.std.proofs.Common.{◌≡◌, ◌⊎◌, inl, inr, ℕ, zero, suc, Bool, true, false, true≢false, not}
+use Rattle.std.proofs.Common.{cond, ◌||◌, ◌&&◌, List, [], ◌∷◌, ◌++◌, map, flat_map, filter}
+use Rattle.std.proofs.Common.{filter_map, find, slice_get, Option, Some, None, refl, sym, ap, subst}
+use Rattle.std.proofs.Common.{◌∙◌}
 use Rattle.std.specs.List.{list_any, list_all, cons_option}
 use Rattle.rule_read.specs.Sound.{AllOf}
 
@@ -36,7 +39,8 @@ any_left false b e = absurd (true≢false (sym e))
 
 -- ---- members
 
-option_more : {B : Type 0} (P : B → Type 0) (o : Option B) (ys : List B) → ((y : B) → o ≡ Some y → P y) → AllOf P ys → AllOf P (cons_option o ys)
+option_more : {B : Type 0} (P : B → Type 0) (o : Option B) (ys : List B)
+    → ((y : B) → o ≡ Some y → P y) → AllOf P ys → AllOf P (cons_option o ys)
 option_more P None ys f all = all
 option_more P (Some y) ys f all = (f y refl, all)
 
@@ -50,7 +54,8 @@ module _ {A : Type 0} where
   all_members P [] f = tt
   all_members P (y ∷ ys) f = (f y (inl refl), all_members P ys (λ x i. f x (inr i)))
 
-  pub all_weaker : (P Q : A → Type 0) → ((x : A) → P x → Q x) → (xs : List A) → AllOf P xs → AllOf Q xs
+  pub all_weaker : (P Q : A → Type 0) → ((x : A) → P x → Q x) → (xs : List A) → AllOf P xs
+      → AllOf Q xs
   all_weaker P Q f [] all = tt
   all_weaker P Q f (x ∷ xs) all = (f x all.0, all_weaker P Q f xs all.1)
 
@@ -66,33 +71,43 @@ module _ {A : Type 0} where
   all_back P [] ys a = a
   all_back P (x ∷ xs) ys a = all_back P xs ys a.1
 
-  filtered : (P : A → Type 0) (b : Bool) (x : A) (xs : List A) → P x → AllOf P xs → AllOf P (cond b (x ∷ xs) xs)
+  filtered : (P : A → Type 0) (b : Bool) (x : A) (xs : List A) → P x → AllOf P xs
+      → AllOf P (cond b (x ∷ xs) xs)
   filtered P true x xs p all = (p, all)
   filtered P false x xs p all = all
 
-  pub all_filter : (P : A → Type 0) (p : A → Bool) (xs : List A) → AllOf P xs → AllOf P (filter p xs)
+  pub all_filter : (P : A → Type 0) (p : A → Bool) (xs : List A) → AllOf P xs
+      → AllOf P (filter p xs)
   all_filter P p [] all = tt
   all_filter P p (x ∷ xs) all = filtered P (p x) x (filter p xs) all.0 (all_filter P p xs all.1)
 
-  filtered_by : (P : A → Type 0) (b : Bool) (x : A) (xs : List A) → (b ≡ true → P x) → AllOf P xs → AllOf P (cond b (x ∷ xs) xs)
+  filtered_by : (P : A → Type 0) (b : Bool) (x : A) (xs : List A) → (b ≡ true → P x) → AllOf P xs
+      → AllOf P (cond b (x ∷ xs) xs)
   filtered_by P true x xs p all = (p refl, all)
   filtered_by P false x xs p all = all
 
   -- what passes the test, passes it
-  pub all_passing : (P : A → Type 0) (p : A → Bool) (xs : List A) → AllOf P xs → AllOf (λ x. P x × (p x ≡ true)) (filter p xs)
+  pub all_passing : (P : A → Type 0) (p : A → Bool) (xs : List A) → AllOf P xs
+      → AllOf (λ x. P x × (p x ≡ true)) (filter p xs)
   all_passing P p [] all = tt
-  all_passing P p (x ∷ xs) all = filtered_by (λ x. P x × (p x ≡ true)) (p x) x (filter p xs) (λ e. (all.0, e)) (all_passing P p xs all.1)
+  all_passing P p (x ∷ xs) all = filtered_by (λ x. P x × (p x ≡ true)) (p x) x (filter p xs)
+      (λ e. (all.0, e)) (all_passing P p xs all.1)
 
   -- no member passes the test
   pub none_pass : (p : A → Bool) (xs : List A) → list_any p xs ≡ false → AllOf (λ x. p x ≡ false) xs
   none_pass p [] e = tt
-  none_pass p (x ∷ xs) e = (none_left (p x) (list_any p xs) e, none_pass p xs (none_right (p x) (list_any p xs) e))
+  none_pass p (x ∷ xs) e = (
+    none_left (p x) (list_any p xs) e,
+    none_pass p xs (none_right (p x) (list_any p xs) e),
+  )
 
-  pub list_all_from : (p : A → Bool) (xs : List A) → AllOf (λ x. p x ≡ true) xs → list_all p xs ≡ true
+  pub list_all_from : (p : A → Bool) (xs : List A) → AllOf (λ x. p x ≡ true) xs
+      → list_all p xs ≡ true
   list_all_from p [] all = refl
   list_all_from p (x ∷ xs) all = both (p x) (list_all p xs) all.0 (list_all_from p xs all.1)
 
-  pub all_places : (P : A → Type 0) (xs : List A) → ((k : ℕ) (x : A) → slice_get xs k ≡ Some x → P x) → AllOf P xs
+  pub all_places : (P : A → Type 0) (xs : List A) → ((k : ℕ) (x : A) → slice_get xs k ≡ Some x
+      → P x) → AllOf P xs
   all_places P [] f = tt
   all_places P (x ∷ xs) f = (f zero x refl, all_places P xs (λ k y e. f (suc k) y e))
 
@@ -118,29 +133,51 @@ module _ {A : Type 0} where
     pub passes : p item ≡ true
     pub has : Q item
 
-  pub first_passing : (p : A → Bool) (Q : A → Type 0) (xs : List A) → AllOf Q xs → list_any p xs ≡ true → Found p Q xs
+  pub first_passing : (p : A → Bool) (Q : A → Type 0) (xs : List A) → AllOf Q xs
+      → list_any p xs ≡ true → Found p Q xs
   first_passing p Q [] all e = absurd (true≢false (sym e))
   first_passing p Q (x ∷ xs) all e = by (p x) refl (first_passing p Q xs all.1)
     where
       by : (b : Bool) → p x ≡ b → (list_any p xs ≡ true → Found p Q xs) → Found p Q (x ∷ xs)
-      by true t rest = record { item = x; is = ap (λ b. cond b (Some x) (find p xs)) t; passes = t; has = all.0 }
+      by true t rest = record {
+        item = x;
+        is = ap (λ b. cond b (Some x) (find p xs)) t;
+        passes = t;
+        has = all.0;
+      }
       by false t rest =
           let r = rest (sym (ap (λ b. b || list_any p xs) t) ∙ e) in
-          record { item = r.item; is = ap (λ b. cond b (Some x) (find p xs)) t ∙ r.is; passes = r.passes; has = r.has }
+          record {
+            item = r.item;
+            is = ap (λ b. cond b (Some x) (find p xs)) t ∙ r.is;
+            passes =
+                r.passes;
+            has = r.has;
+          }
 
 module _ {A B : Type 0} where
-  pub all_map : (P : B → Type 0) (f : A → B) (xs : List A) → AllOf (λ x. P (f x)) xs → AllOf P (map f xs)
+  pub all_map : (P : B → Type 0) (f : A → B) (xs : List A) → AllOf (λ x. P (f x)) xs
+      → AllOf P (map f xs)
   all_map P f [] all = tt
   all_map P f (x ∷ xs) all = (all.0, all_map P f xs all.1)
 
-  pub all_flat_map : (P : B → Type 0) (f : A → List B) (xs : List A) → AllOf (λ x. AllOf P (f x)) xs → AllOf P (flat_map f xs)
+  pub all_flat_map : (P : B → Type 0) (f : A → List B) (xs : List A)
+      → AllOf (λ x. AllOf P (f x)) xs → AllOf P (flat_map f xs)
   all_flat_map P f [] all = tt
-  all_flat_map P f (x ∷ xs) all = all_append P (f x) (flat_map f xs) all.0 (all_flat_map P f xs all.1)
+  all_flat_map P f (x ∷ xs) all = all_append P (f x) (flat_map f xs) all.0
+      (all_flat_map P f xs all.1)
 
-  pub each_of_flat_map : (P : B → Type 0) (f : A → List B) (xs : List A) → AllOf P (flat_map f xs) → AllOf (λ x. AllOf P (f x)) xs
+  pub each_of_flat_map : (P : B → Type 0) (f : A → List B) (xs : List A) → AllOf P (flat_map f xs)
+      → AllOf (λ x. AllOf P (f x)) xs
   each_of_flat_map P f [] all = tt
-  each_of_flat_map P f (x ∷ xs) all = (all_front P (f x) (flat_map f xs) all, each_of_flat_map P f xs (all_back P (f x) (flat_map f xs) all))
+  each_of_flat_map P f (x ∷ xs) all = (
+    all_front P (f x) (flat_map f xs) all,
+    each_of_flat_map P f
+        xs (all_back P (f x) (flat_map f xs) all),
+  )
 
-  pub all_filter_map : (P : B → Type 0) (f : A → Option B) (xs : List A) → AllOf (λ x. (y : B) → f x ≡ Some y → P y) xs → AllOf P (filter_map f xs)
+  pub all_filter_map : (P : B → Type 0) (f : A → Option B) (xs : List A)
+      → AllOf (λ x. (y : B) → f x ≡ Some y → P y) xs → AllOf P (filter_map f xs)
   all_filter_map P f [] all = tt
-  all_filter_map P f (x ∷ xs) all = option_more P (f x) (filter_map f xs) all.0 (all_filter_map P f xs all.1)
+  all_filter_map P f (x ∷ xs) all = option_more P (f x) (filter_map f xs) all.0
+      (all_filter_map P f xs all.1)

@@ -1,6 +1,9 @@
 -- Lists of numbers below sizes, in order: how many there are, and which stands where.
-use Rattle.std.proofs.Common.{◌≡◌, ℕ, zero, suc, ◌+◌, ◌*◌, ◌/◌, ◌%◌, ◌<◌, List, [], ◌∷◌, ◌++◌, length, map, flat_map, slice_get, Option, option_map, Some, None, refl, sym, subst, ◌∙◌, ap, arith, length-append, append-nil}
-use Rattle.std.proofs.Math.Nat.{mul-zero, zero-mul, suc-mul, mul-div_cancel_left, div-lt_iff_lt-mul, mod-lt}
+use Rattle.std.proofs.Common.{◌≡◌, ℕ, zero, suc, ◌+◌, ◌*◌, ◌/◌, ◌%◌, ◌<◌, List, [], ◌∷◌, ◌++◌}
+use Rattle.std.proofs.Common.{length, map, flat_map, slice_get, Option, option_map, Some, None}
+use Rattle.std.proofs.Common.{refl, sym, subst, ◌∙◌, ap, arith, length-append, append-nil}
+use Rattle.std.proofs.Math.Nat.{mul-zero, zero-mul, suc-mul, mul-div_cancel_left, div-lt_iff_lt-mul}
+use Rattle.std.proofs.Math.Nat.{mod-lt}
 use Rattle.std.proofs.lemmas.Nat.{div-add-mod'}
 use Rattle.std.proofs.lemmas.List.{length-map, append_assoc}
 use Rattle.std.proofs.lemmas.Option.{slice_get-map}
@@ -9,12 +12,14 @@ use Rattle.ground_types.specs.Sound.{argument_lists}
 
 -- ---- one list behind another
 
-pub get_front : {X : Type 0} (xs ys : List X) (k : ℕ) → k < length xs → slice_get (xs ++ ys) k ≡ slice_get xs k
+pub get_front : {X : Type 0} (xs ys : List X) (k : ℕ) → k < length xs → slice_get (xs ++ ys) k
+    ≡ slice_get xs k
 get_front [] ys k h = absurd (omega (arith, h))
 get_front (x ∷ xs) ys zero h = refl
 get_front (x ∷ xs) ys (suc k) h = get_front xs ys k (omega (arith, h))
 
-pub get_back : {X : Type 0} (xs ys : List X) (k : ℕ) → slice_get (xs ++ ys) (length xs + k) ≡ slice_get ys k
+pub get_back : {X : Type 0} (xs ys : List X) (k : ℕ) → slice_get (xs ++ ys) (length xs + k)
+    ≡ slice_get ys k
 get_back [] ys k = ap (slice_get ys) (omega arith)
 get_back (x ∷ xs) ys k =
     let e : suc (length xs) + k ≡ suc (length xs + k) = omega arith in
@@ -40,24 +45,28 @@ module _ (tails : List (List ℕ)) where
   length_blocks a zero = grind arith
   length_blocks a (suc n) =
       length-append (block a) (flat_map block (range_with_len (a + 1) n))
-      ∙ ap (λ k. k + length (flat_map block (range_with_len (a + 1) n))) (length-map tails (λ rest. a ∷ rest))
+      ∙ ap (λ k. k + length (flat_map block (range_with_len (a + 1) n)))
+      (length-map tails (λ rest. a ∷ rest))
       ∙ ap (λ k. length tails + k) (length_blocks (a + 1) n)
       ∙ grind (arith, suc-mul n (length tails))
 
   -- the list behind so many whole blocks, at a place in the next one
   pub in_block : (a n q r : ℕ) → q < n → r < length tails
-      → slice_get (flat_map block (range_with_len a n)) (q * length tails + r) ≡ option_map (λ rest. (a + q) ∷ rest) (slice_get tails r)
+      → slice_get (flat_map block (range_with_len a n)) (q * length tails + r)
+      ≡ option_map (λ rest. (a + q) ∷ rest) (slice_get tails r)
   in_block a zero q r below inside = absurd (omega (arith, below))
   in_block a (suc n) zero r below inside =
       let at : 0 * length tails + r ≡ r = grind arith in
       let first : a ≡ a + 0 = omega arith in
       ap (slice_get (block a ++ flat_map block (range_with_len (a + 1) n))) at
-      ∙ get_front (block a) (flat_map block (range_with_len (a + 1) n)) r (subst (λ k. r < k) (sym (length-map tails (λ rest. a ∷ rest))) inside)
+      ∙ get_front (block a) (flat_map block (range_with_len (a + 1) n)) r
+      (subst (λ k. r < k) (sym (length-map tails (λ rest. a ∷ rest))) inside)
       ∙ slice_get-map (λ rest. a ∷ rest) tails r
       ∙ ap (λ e. option_map (λ rest. e ∷ rest) (slice_get tails r)) first
   in_block a (suc n) (suc q) r below inside =
       let count : length (block a) ≡ length tails = length-map tails (λ rest. a ∷ rest) in
-      let at : suc q * length tails + r ≡ length (block a) + (q * length tails + r) = grind (arith, suc-mul q (length tails), count) in
+      let at : suc q * length tails + r ≡ length (block a) + (q * length tails + r) =
+      grind (arith, suc-mul q (length tails), count) in
       let number : a + 1 + q ≡ a + suc q = omega arith in
       ap (slice_get (block a ++ flat_map block (range_with_len (a + 1) n))) at
       ∙ get_back (block a) (flat_map block (range_with_len (a + 1) n)) (q * length tails + r)
@@ -67,15 +76,20 @@ module _ (tails : List (List ℕ)) where
 -- how many lists there are
 pub length_lists : (sizes : List ℕ) → length (argument_lists sizes) ≡ product sizes
 length_lists [] = refl
-length_lists (size ∷ sizes) = length_blocks (argument_lists sizes) 0 size ∙ ap (λ n. size * n) (length_lists sizes)
+length_lists (size ∷ sizes) = length_blocks (argument_lists sizes) 0 size
+    ∙ ap (λ n. size * n) (length_lists sizes)
 
--- Numbers were taken in front of a list, and what is left of it stands at a place among the lists of the sizes that are left.
-pub record IsAt (sizes : List ℕ) (place : ℕ) (left : List ℕ) (count rest : ℕ) (front : List ℕ) : Type 0 where
+-- Numbers were taken in front of a list, and what is left of it stands at a place among the lists
+-- of the sizes that are left.
+pub record IsAt (sizes : List ℕ) (place : ℕ) (left : List ℕ) (count rest : ℕ) (front : List ℕ) :
+    Type 0 where
   pub count_is : count ≡ length (argument_lists left)
   pub inside : rest < count
-  pub found : slice_get (argument_lists sizes) place ≡ option_map (λ back. front ++ back) (slice_get (argument_lists left) rest)
+  pub found : slice_get (argument_lists sizes) place ≡ option_map (λ back. front ++ back)
+      (slice_get (argument_lists left) rest)
 
-module _ (sizes : List ℕ) (place size : ℕ) (left : List ℕ) (count rest : ℕ) (front : List ℕ) (at : IsAt sizes place (size ∷ left) count rest front) where
+module _ (sizes : List ℕ) (place size : ℕ) (left : List ℕ) (count rest : ℕ) (front : List ℕ)
+    (at : IsAt sizes place (size ∷ left) count rest front) where
   abbrev tails : List (List ℕ)
   tails = argument_lists left
 
@@ -102,40 +116,52 @@ module _ (sizes : List ℕ) (place size : ℕ) (left : List ℕ) (count rest : �
   pub number_below : rest / (count / size) < size
   number_below = subst (λ n. rest / n < size) (sym divided) below_by
 
-  put_in_front : (number : ℕ) (o : Option (List ℕ)) → option_map (λ back. front ++ back) (option_map (λ back. number ∷ back) o) ≡ option_map (λ back. (front ++ number ∷ []) ++ back) o
+  put_in_front : (number : ℕ) (o : Option (List ℕ)) → option_map (λ back. front ++ back)
+      (option_map (λ back. number ∷ back) o) ≡ option_map (λ back. (front ++ number ∷ []) ++ back)
+      o
   put_in_front number None = refl
   put_in_front number (Some back) = ap Some (sym (append_assoc front (number ∷ []) back))
 
-  found_by : slice_get (argument_lists (size ∷ left)) rest ≡ option_map (λ back. (rest / length tails) ∷ back) (slice_get tails (rest % length tails))
+  found_by : slice_get (argument_lists (size ∷ left)) rest
+      ≡ option_map (λ back. (rest / length tails) ∷ back) (slice_get tails (rest % length tails))
   found_by =
       ap (slice_get (argument_lists (size ∷ left))) (sym (div-add-mod' rest (length tails)))
-      ∙ in_block tails 0 size (rest / length tails) (rest % length tails) below_by (mod-lt rest some.1)
-      ∙ ap (λ n. option_map (λ back. n ∷ back) (slice_get tails (rest % length tails))) (omega arith)
+      ∙ in_block tails 0 size (rest / length tails) (rest % length tails) below_by
+      (mod-lt rest some.1)
+      ∙ ap (λ n. option_map (λ back. n ∷ back) (slice_get tails (rest % length tails)))
+      (omega arith)
 
-  next_by : IsAt sizes place left (length tails) (rest % length tails) (front ++ (rest / length tails) ∷ [])
+  next_by : IsAt sizes place left (length tails) (rest % length tails)
+      (front ++ (rest / length tails) ∷ [])
   next_by = record {
     count_is = refl;
     inside = mod-lt rest some.1;
-    found = at.found ∙ ap (option_map (λ back. front ++ back)) found_by ∙ put_in_front (rest / length tails) (slice_get tails (rest % length tails));
+    found = at.found ∙ ap (option_map (λ back. front ++ back)) found_by
+        ∙ put_in_front (rest / length tails) (slice_get tails (rest % length tails));
   }
 
   -- one number more
-  pub next_at : IsAt sizes place left (count / size) (rest % (count / size)) (front ++ (rest / (count / size)) ∷ [])
-  next_at = subst (λ n. IsAt sizes place left n (rest % n) (front ++ (rest / n) ∷ [])) (sym divided) next_by
+  pub next_at : IsAt sizes place left (count / size) (rest % (count / size))
+      (front ++ (rest / (count / size)) ∷ [])
+  next_at = subst (λ n. IsAt sizes place left n (rest % n) (front ++ (rest / n) ∷ []))
+      (sym divided) next_by
 
 -- at the end the front is the list
-pub all_taken : (sizes : List ℕ) (place count rest : ℕ) (front : List ℕ) → IsAt sizes place [] count rest front → slice_get (argument_lists sizes) place ≡ Some front
+pub all_taken : (sizes : List ℕ) (place count rest : ℕ) (front : List ℕ)
+    → IsAt sizes place [] count rest front → slice_get (argument_lists sizes) place ≡ Some front
 all_taken sizes place count rest front at =
     let one : count ≡ 1 = at.count_is in
     let first : rest ≡ 0 = omega (arith, at.inside, one) in
-    at.found ∙ ap (λ n. option_map (λ back. front ++ back) (slice_get (argument_lists []) n)) first ∙ ap Some (append-nil front)
+    at.found ∙ ap (λ n. option_map (λ back. front ++ back) (slice_get (argument_lists []) n)) first
+    ∙ ap Some (append-nil front)
 
 same : (o : Option (List ℕ)) → o ≡ option_map (λ back. [] ++ back) o
 same None = refl
 same (Some back) = refl
 
 -- at the beginning there is no front
-pub none_taken : (sizes : List ℕ) (place count : ℕ) → count ≡ length (argument_lists sizes) → place < length (argument_lists sizes) → IsAt sizes place sizes count place []
+pub none_taken : (sizes : List ℕ) (place count : ℕ) → count ≡ length (argument_lists sizes)
+    → place < length (argument_lists sizes) → IsAt sizes place sizes count place []
 none_taken sizes place count is inside = record {
   count_is = is;
   inside = subst (λ n. place < n) (sym is) inside;

@@ -1,5 +1,6 @@
 -- What a description is grounded to is a sound program.
-use Rattle.std.proofs.Common.{◌≡◌, ℕ, List, map, flat_map, None, Result, Ok, Err, IfOk, subst, sym, ap}
+use Rattle.std.proofs.Common.{◌≡◌, ℕ, List, map, flat_map, None, Result, Ok, Err, IfOk, subst, sym}
+use Rattle.std.proofs.Common.{ap}
 use Rattle.rule_read.specs.Forms.{plain}
 use Rattle.domain_decl.specs.declared.checked.Checked.{Checked}
 use Rattle.domain_decl.specs.Accepted.{plain_checked}
@@ -20,7 +21,8 @@ use Rattle.ground_rules.proofs.RuleCounts.{units_within, events_within, rules_wi
 use Rattle.ground_rules.proofs.UnitNumbers.{order, numbering, kinds}
 use Rattle.ground_rules.proofs.KeptWords.{domain_numbers, words, entities, values}
 
-pub sound_program : (checked : Checked) (of_name : List ℕ) (program : Program) → IsSoundChecked checked
+pub sound_program : (checked : Checked) (of_name : List ℕ) (program : Program)
+    → IsSoundChecked checked
     → IsLayering (map plain checked.rules) checked.names of_name
     → exceeded (plain_checked checked) ≡ None
     → plain_program program ≡ grounded (plain_checked checked) of_name
@@ -32,8 +34,10 @@ sound_program checked of_name program sound layering within same = record {
   rules_most = rules_within checked of_name program within same;
   domain_numbers = domain_numbers checked of_name program same sound;
   rule_numbers =
-      units_fit program checked.domains checked.names (flat_map instances (clauses (plain_checked checked)))
-      (ap (λ p. p.units) same) (ap (λ p. p.names) same) (ap (λ p. p.events) same) (instances_ground checked sound);
+      units_fit program checked.domains checked.names
+      (flat_map instances (clauses (plain_checked checked)))
+      (ap (λ p. p.units) same) (ap (λ p. p.names) same) (ap (λ p. p.events) same)
+      (instances_ground checked sound);
   kinds = kinds checked of_name program same;
   names = words checked of_name program same sound;
   entities = entities checked of_name program same sound;
@@ -44,7 +48,10 @@ sound_program checked of_name program sound layering within same = record {
 }
 
 -- so what is answered is sound
-pub sound_answer : (checked : Checked) (of_name : List ℕ) → IsSoundChecked checked → IsLayering (map plain checked.rules) checked.names of_name
-    → (answer : Result Program GroundRefused) → Answers answer (plain_checked checked) of_name → IfOk answer IsSound
-sound_answer checked of_name sound layering (Ok program) is = sound_program checked of_name program sound layering is.0 is.1
+pub sound_answer : (checked : Checked) (of_name : List ℕ) → IsSoundChecked checked
+    → IsLayering (map plain checked.rules) checked.names of_name
+    → (answer : Result Program GroundRefused) → Answers answer (plain_checked checked) of_name
+    → IfOk answer IsSound
+sound_answer checked of_name sound layering (Ok program) is = sound_program checked of_name program
+    sound layering is.0 is.1
 sound_answer checked of_name sound layering (Err refusal) is = tt

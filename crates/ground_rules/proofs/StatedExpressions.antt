@@ -2,7 +2,8 @@
 use Rattle.std.proofs.Common.{◌≡◌, List, [], ◌∷◌, map, refl, sym, ap, ◌∙◌}
 use Rattle.std.specs.Global.{Vec, Box}
 use Rattle.rule_read.specs.declared.form.Tree.{Tree, Union, Intersect, Complement}
-use Rattle.rule_read.specs.Forms.{Expression, more, Union_of, Intersect_of, Complement_of, plain_tree}
+use Rattle.rule_read.specs.Forms.{Expression, more, Union_of, Intersect_of, Complement_of}
+use Rattle.rule_read.specs.Forms.{plain_tree}
 use Rattle.rule_read.specs.Reading.{expressions}
 use Rattle.rule_read.proofs.Trees.{plain_union, plain_intersect, plain_complement}
 use Rattle.ground_rules.specs.Assignments.{Instance}
@@ -12,25 +13,29 @@ module _ (i : Instance) where
   abbrev pub stated_of : Tree → Expression
   stated_of tree = stated_expression i (plain_tree tree)
 
-  members_stated : (trees : List Tree) → expressions (map stated_of trees) ≡ stated_expressions i (expressions (map plain_tree trees))
+  members_stated : (trees : List Tree) → expressions (map stated_of trees) ≡ stated_expressions i
+      (expressions (map plain_tree trees))
   members_stated [] = refl
   members_stated (tree ∷ trees) = ap (more (stated_of tree)) (members_stated trees)
 
-  pub union_stated : (v w : Vec Tree) → map plain_tree v.items ≡ map stated_of w.items → plain_tree (Union v) ≡ stated_of (Union w)
+  pub union_stated : (v w : Vec Tree) → map plain_tree v.items ≡ map stated_of w.items
+      → plain_tree (Union v) ≡ stated_of (Union w)
   union_stated v w same =
       plain_union v
       ∙ ap (λ es. Union_of (expressions es)) same
       ∙ ap Union_of (members_stated w.items)
       ∙ ap (stated_expression i) (sym (plain_union w))
 
-  pub intersect_stated : (v w : Vec Tree) → map plain_tree v.items ≡ map stated_of w.items → plain_tree (Intersect v) ≡ stated_of (Intersect w)
+  pub intersect_stated : (v w : Vec Tree) → map plain_tree v.items ≡ map stated_of w.items
+      → plain_tree (Intersect v) ≡ stated_of (Intersect w)
   intersect_stated v w same =
       plain_intersect v
       ∙ ap (λ es. Intersect_of (expressions es)) same
       ∙ ap Intersect_of (members_stated w.items)
       ∙ ap (stated_expression i) (sym (plain_intersect w))
 
-  pub complement_stated : (b d : Box Tree) (v w : Vec Tree) → plain_tree b.value ≡ stated_of d.value → map plain_tree v.items ≡ map stated_of w.items
+  pub complement_stated : (b d : Box Tree) (v w : Vec Tree) → plain_tree b.value
+      ≡ stated_of d.value → map plain_tree v.items ≡ map stated_of w.items
       → plain_tree (Complement b v) ≡ stated_of (Complement d w)
   complement_stated b d v w first same =
       plain_complement b v

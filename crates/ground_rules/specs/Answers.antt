@@ -9,6 +9,7 @@ use Rattle.ground_rules.specs.Limits.{exceeded}
 
 -- the program where no limit is exceeded, else the first limit that is, unless memory ran out
 abbrev pub Answers : Result Program GroundRefused → PlainChecked → List ℕ → Type 0
-Answers (Ok program) checked of_name = (exceeded checked ≡ None) × (plain_program program ≡ grounded checked of_name)
+Answers (Ok program) checked of_name = (exceeded checked ≡ None)
+    × (plain_program program ≡ grounded checked of_name)
 Answers (Err (refused.TooLarge limit)) checked of_name = exceeded checked ≡ Some limit
 Answers (Err refused.OutOfMemory) checked of_name = Unit {0}

@@ -1,6 +1,7 @@
--- *Instances*: the assignments of a statement's variables from their domains, in order, for which every X \= Y compares two
--- different words.
-use Rattle.std.specs.Prelude.{ℕ, Bool, true, not, List, [], ◌∷◌, ◌++◌, map, flat_map, filter, find, fold, slice_index_or, Option, Some, None, if◌then◌else◌}
+-- *Instances*: the assignments of a statement's variables from their domains, in order, for which
+-- every X \= Y compares two different words.
+use Rattle.std.specs.Prelude.{ℕ, Bool, true, not, List, [], ◌∷◌, ◌++◌, map, flat_map, filter, find}
+use Rattle.std.specs.Prelude.{fold, slice_index_or, Option, Some, None, if◌then◌else◌}
 use Rattle.std.specs.List.{list_all}
 use Rattle.std.specs.Str.{bytes_eq}
 use Rattle.ground_types.specs.Sound.{argument_lists, domain_sizes}
@@ -34,20 +35,23 @@ each_once words = fold with_word [] words
 
 -- the variables of a statement in the order of their first occurrence, head first
 abbrev pub variables_of : PlainForm → List (List ℕ)
-variables_of form = each_once (variables (head_of form) ++ (flat_map variables_in (conditions_of form) ++ variables (leaves_of form)))
+variables_of form = each_once (variables (head_of form)
+    ++ (flat_map variables_in (conditions_of form) ++ variables (leaves_of form)))
 
 abbrev pub number_at : Option (List ℕ × ℕ) → ℕ
 number_at None = 0
 number_at (Some place) = place.1
 
--- The number of a variable's domain: that of the first place of an atom at which it stands. (In a checked description all its
--- places are of this domain, and it has one.)
+-- The number of a variable's domain: that of the first place of an atom at which it stands. (In a
+-- checked description all its places are of this domain, and it has one.)
 abbrev pub domain_of : Clause → List ℕ → ℕ
-domain_of clause variable = number_at (find (λ place. bytes_eq place.0 variable) (places clause.names clause.form))
+domain_of clause variable = number_at (find (λ place. bytes_eq place.0 variable)
+    (places clause.names clause.form))
 
 -- how many entities each variable may stand for
 abbrev pub variable_sizes : Clause → List ℕ
-variable_sizes clause = domain_sizes clause.domains (map (domain_of clause) (variables_of clause.form))
+variable_sizes clause = domain_sizes clause.domains
+    (map (domain_of clause) (variables_of clause.form))
 
 -- All assignments of entity numbers to the variables, in order, the first variable slowest.
 abbrev pub assignments : Clause → List (List ℕ)
@@ -68,7 +72,8 @@ entity_of i variable = entity_at i.assignment (place_in (variables_of i.clause.f
 
 -- its word
 abbrev pub word_of : Instance → List ℕ → List ℕ
-word_of i variable = slice_index_or (entities_of i.clause.domains (domain_of i.clause variable)) (entity_of i variable) []
+word_of i variable = slice_index_or (entities_of i.clause.domains (domain_of i.clause variable))
+    (entity_of i variable) []
 
 -- the assignment permits a condition: X \= Y only where the words differ
 abbrev pub permits : Instance → Body → Bool
@@ -81,4 +86,8 @@ is_permitted i = list_all (permits i) (conditions_of i.clause.form)
 
 -- The instances of a statement, in order.
 abbrev pub instances : Clause → List Instance
-instances clause = filter is_permitted (map (λ assignment. record { clause = clause; assignment = assignment }) (assignments clause))
+instances clause = filter is_permitted (map (λ assignment. record {
+  clause = clause;
+  assignment =
+      assignment;
+}) (assignments clause))

@@ -1,5 +1,6 @@
 -- What atoms, conditions and expressions are under an assignment.
-use Rattle.std.specs.Prelude.{ℕ, true, List, [], ◌∷◌, map, filter_map, zip, Option, Some, None, if◌then◌else◌}
+use Rattle.std.specs.Prelude.{ℕ, true, List, [], ◌∷◌, map, filter_map, zip, Option, Some, None}
+use Rattle.std.specs.Prelude.{if◌then◌else◌}
 use Rattle.ground_types.specs.Sound.{is_input}
 use Rattle.ground_types.specs.declared.program.Name.{Name}
 use Rattle.ground_types.specs.declared.program.Trigger.{Trigger}
@@ -7,7 +8,8 @@ use Rattle.ground_types.specs.declared.program.Trigger.TheVariants as trigger
 use Rattle.ground_types.specs.declared.program.What.TheVariants as what
 use Rattle.ground_types.specs.declared.program.Cond.{Cond}
 use Rattle.ground_types.specs.declared.program.Rule.{Rule}
-use Rattle.ground_types.specs.declared.program.Expr.{Expr, Row, Union', Intersect', Complement', Row_of-Expr, end_of-Expr, more_of-Expr}
+use Rattle.ground_types.specs.declared.program.Expr.{Expr, Row, Union', Intersect', Complement'}
+use Rattle.ground_types.specs.declared.program.Expr.{Row_of-Expr, end_of-Expr, more_of-Expr}
 use Rattle.rule_read.specs.declared.form.Term.{Term}
 use Rattle.rule_read.specs.declared.form.Term.TheVariants as term
 use Rattle.rule_read.specs.declared.form.Atom.{Atom}
@@ -16,13 +18,16 @@ use Rattle.rule_read.specs.declared.form.EventText.{EventText}
 use Rattle.rule_read.specs.declared.form.EventText.TheVariants as event
 use Rattle.rule_read.specs.declared.form.Body.{Body}
 use Rattle.rule_read.specs.declared.form.Body.TheVariants as body
-use Rattle.rule_read.specs.Forms.{Expression, Expressions, Value_of, Union_of, Intersect_of, Complement_of, none, more, PlainForm, Initially, Initiated, Terminated, Happens, HoldsFor}
+use Rattle.rule_read.specs.Forms.{Expression, Expressions, Value_of, Union_of, Intersect_of}
+use Rattle.rule_read.specs.Forms.{Complement_of, none, more, PlainForm, Initially, Initiated}
+use Rattle.rule_read.specs.Forms.{Terminated, Happens, HoldsFor}
 use Rattle.domain_decl.specs.Lists.{place_in}
 use Rattle.domain_decl.specs.Rules.{declaration, entities_of}
 use Rattle.ground_rules.specs.Numbers.{number_of}
 use Rattle.ground_rules.specs.Assignments.{Instance, entity_of}
 
--- (in a checked description each name, value and entity is declared, so that no 0 stands for one that is not)
+-- (in a checked description each name, value and entity is declared, so that no 0 stands for one
+-- that is not)
 abbrev pub or_zero : Option ℕ → ℕ
 or_zero None = 0
 or_zero (Some n) = n
@@ -37,7 +42,8 @@ ground_args i name args = map (λ place. ground_term i place.0 place.1) (zip arg
 
 abbrev pub number_by : Instance → Atom → Option Name → ℕ
 number_by i atom None = 0
-number_by i atom (Some name) = or_zero (number_of i.clause.domains name (ground_args i name atom.args))
+number_by i atom (Some name) = or_zero (number_of i.clause.domains name
+    (ground_args i name atom.args))
 
 -- the number of the ground event or unit that an atom names
 abbrev pub ground_atom : Instance → Atom → ℕ
@@ -56,19 +62,27 @@ event_by None n = trigger.Derived n
 event_by (Some name) n = if is_input name.kind then trigger.Event n else trigger.Derived n
 
 abbrev pub ground_event : Instance → EventText → Trigger
-ground_event i (event.Plain atom) = event_by (declaration i.clause.names atom.name) (ground_atom i atom)
+ground_event i (event.Plain atom) = event_by (declaration i.clause.names atom.name)
+    (ground_atom i atom)
 ground_event i (event.Start fv) = trigger.Start (ground_atom i fv.atom) (ground_value i fv)
 ground_event i (event.End fv) = trigger.End (ground_atom i fv.atom) (ground_value i fv)
 
 -- (X \= Y leaves no condition behind)
 abbrev pub ground_condition : Instance → Body → Option Cond
-ground_condition i (body.Happens positive event) = Some (record { positive = positive; what = what.Happens (ground_event i event) })
-ground_condition i (body.Holds positive fv) = Some (record { positive = positive; what = what.Holds (ground_atom i fv.atom) (ground_value i fv) })
+ground_condition i (body.Happens positive event) =
+    Some (record { positive = positive; what = what.Happens (ground_event i event) })
+ground_condition i (body.Holds positive fv) =
+    Some (record {
+      positive = positive;
+      what = what.Holds (ground_atom i fv.atom)
+          (ground_value i fv);
+    })
 ground_condition i (body.Unequal x y) = None
 
 -- ---- what an instance defines
 
--- the number of the unit that stands in the head (each statement of a checked description that is kept has one)
+-- the number of the unit that stands in the head (each statement of a checked description that is
+-- kept has one)
 abbrev pub unit_by : Instance → PlainForm → ℕ
 unit_by i (Initially fv) = ground_atom i fv.atom
 unit_by i (Initiated fv bodies) = ground_atom i fv.atom
@@ -94,7 +108,11 @@ head_value i = value_by i i.clause.form
 -- the rule for a value whose first condition is its trigger
 abbrev pub ground_rule : Instance → ℕ → List Body → Option Rule
 ground_rule i value (body.Happens true event ∷ others) =
-    Some (record { value = value; trigger = ground_event i event; conds = filter_map (ground_condition i) others })
+    Some (record {
+      value = value;
+      trigger = ground_event i event;
+      conds = filter_map (ground_condition i) others;
+    })
 ground_rule i value bodies = None
 
 -- ---- expressions as plain data
@@ -115,7 +133,8 @@ abbrev mutual
   plain_expr (Row unit v) = Row_is unit v
   plain_expr (Union' shape members) = Union_is (plain_exprs members)
   plain_expr (Intersect' shape members) = Intersect_is (plain_exprs members)
-  plain_expr (Complement' p first shape others) = Complement_is (plain_expr first) (plain_exprs others)
+  plain_expr (Complement' p first shape others) = Complement_is (plain_expr first)
+      (plain_exprs others)
 
   pub plain_exprs : {m : _} → Row_of-Expr m → GroundExpressions
   plain_exprs end_of-Expr = no_more
@@ -126,7 +145,8 @@ abbrev mutual
   ground_expression i (Value_of fv) = Row_is (ground_atom i fv.atom) (ground_value i fv)
   ground_expression i (Union_of es) = Union_is (ground_expressions i es)
   ground_expression i (Intersect_of es) = Intersect_is (ground_expressions i es)
-  ground_expression i (Complement_of e es) = Complement_is (ground_expression i e) (ground_expressions i es)
+  ground_expression i (Complement_of e es) = Complement_is (ground_expression i e)
+      (ground_expressions i es)
 
   pub ground_expressions : Instance → Expressions → GroundExpressions
   ground_expressions i none = no_more

@@ -17,4 +17,8 @@ pub record AreDeclarations (domains : List Domain) (names : List Name) : Type 0 
   pub small_numbers : list_all (has_small_numbers domains) names ≡ true
 
 abbrev pub clause_by : Known → Form → Clause
-clause_by known form = record { domains = known.domains.now; names = known.names.now; form = plain_form form }
+clause_by known form = record {
+  domains = known.domains.now;
+  names = known.names.now;
+  form = plain_form form;
+}

@@ -1,12 +1,14 @@
 -- The ground input events of a program, in order, each as its name and its arguments.
-use Rattle.std.specs.Prelude.{ℕ, ◌-◌, nat_le, nat_lt, Bool, ◌&&◌, List, [], length, map, flat_map, if◌then◌else◌}
+use Rattle.std.specs.Prelude.{ℕ, ◌-◌, nat_le, nat_lt, Bool, ◌&&◌, List, [], length, map, flat_map}
+use Rattle.std.specs.Prelude.{if◌then◌else◌}
 use Rattle.ground_types.specs.Sound.{is_input, arguments_of}
 use Rattle.ground_types.specs.declared.program.Domain.{Domain}
 use Rattle.ground_types.specs.declared.program.Name.{Name}
 use Rattle.ground_types.specs.declared.program.Program.{Program}
 
 abbrev pub atoms_of_input : List Domain → Name → List (Name × List ℕ)
-atoms_of_input domains name = if is_input name.kind then map (λ args. (name, args)) (arguments_of domains name) else []
+atoms_of_input domains name = if is_input name.kind then map (λ args. (name, args))
+    (arguments_of domains name) else []
 
 abbrev pub event_atoms : Program → List (Name × List ℕ)
 event_atoms program = flat_map (atoms_of_input program.domains) program.names
@@ -14,4 +16,5 @@ event_atoms program = flat_map (atoms_of_input program.domains) program.names
 -- the event is one of the name, whose events are numbered from its first on
 abbrev pub has_event : List Domain → Name → ℕ → Bool
 has_event domains name event =
-    is_input name.kind && nat_le name.first event && nat_lt (event - name.first) (length (arguments_of domains name))
+    is_input name.kind && nat_le name.first event && nat_lt (event - name.first)
+    (length (arguments_of domains name))

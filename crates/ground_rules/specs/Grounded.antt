@@ -1,5 +1,6 @@
 -- The program of a description: its units in order, each with the instances that define it.
-use Rattle.std.specs.Prelude.{ℕ, ◌==◌, List, [], map, flat_map, filter, filter_map, find, length, sum_by, fold, max, slice_index_or, Option, Some, None, if◌then◌else◌}
+use Rattle.std.specs.Prelude.{ℕ, ◌==◌, List, [], map, flat_map, filter, filter_map, find, length}
+use Rattle.std.specs.Prelude.{sum_by, fold, max, slice_index_or, Option, Some, None, if◌then◌else◌}
 use Rattle.std.specs.List.{range_with_len, enumerate_from}
 use Rattle.ground_types.specs.Members.{contains}
 use Rattle.ground_types.specs.Sound.{is_input, arguments_of}
@@ -13,14 +14,20 @@ use Rattle.ground_types.specs.declared.program.Unit.{Unit}
 use Rattle.ground_types.specs.declared.program.UnitKind.{UnitKind}
 use Rattle.ground_types.specs.declared.program.UnitKind.TheVariants as unit_kind
 use Rattle.ground_types.specs.declared.program.Program.{Program}
-use Rattle.rule_read.specs.Forms.{PlainForm, PlainStatement, Initially, Initiated, Terminated, Happens, HoldsFor}
+use Rattle.rule_read.specs.Forms.{PlainForm, PlainStatement, Initially, Initiated, Terminated}
+use Rattle.rule_read.specs.Forms.{Happens, HoldsFor}
 use Rattle.domain_decl.specs.Accepted.{PlainChecked}
 use Rattle.ground_rules.specs.Numbers.{numbered}
 use Rattle.ground_rules.specs.Assignments.{Clause, Instance, instances}
-use Rattle.ground_rules.specs.Atoms.{GroundExpression, Union_is, all_of, plain_expr, head_unit, head_value, ground_rule, ground_expression}
+use Rattle.ground_rules.specs.Atoms.{GroundExpression, Union_is, all_of, plain_expr, head_unit}
+use Rattle.ground_rules.specs.Atoms.{head_value, ground_rule, ground_expression}
 
 abbrev pub clauses_of : List Domain → List Name → List PlainStatement → List Clause
-clauses_of domains names rules = map (λ s. record { domains = domains; names = names; form = s.form }) rules
+clauses_of domains names rules = map (λ s. record {
+  domains = domains;
+  names = names;
+  form = s.form;
+}) rules
 
 -- the instances with this unit as head
 abbrev pub instances_at : ℕ → List Instance → List Instance
@@ -89,16 +96,19 @@ expression_by i form = None
 
 -- the first declared value, of so many, for which an `initially` instance exists
 abbrev pub opening_of : ℕ → List Instance → Option ℕ
-opening_of values mine = find (contains (filter_map (λ i. opening_by i i.clause.form) mine)) (range_with_len 0 values)
+opening_of values mine = find (contains (filter_map (λ i. opening_by i i.clause.form) mine))
+    (range_with_len 0 values)
 
 -- the union of the expressions of the instances for a value
 abbrev pub union_for : List Instance → ℕ → GroundExpression
-union_for mine v = Union_is (all_of (filter_map (λ i. expression_by i i.clause.form) (filter (λ i. head_value i == v) mine)))
+union_for mine v = Union_is (all_of (filter_map (λ i. expression_by i i.clause.form)
+    (filter (λ i. head_value i == v) mine)))
 
 -- (an input event is no unit)
 abbrev pub kind_by : NameKind → ℕ → List Instance → PlainKind
 kind_by name_kind.Simple values mine =
-    Simple_is (opening_of values mine) (filter_map (λ i. initiation_by i i.clause.form) mine) (filter_map (λ i. termination_by i i.clause.form) mine)
+    Simple_is (opening_of values mine) (filter_map (λ i. initiation_by i i.clause.form) mine)
+    (filter_map (λ i. termination_by i i.clause.form) mine)
 kind_by name_kind.Static values mine = Static_is (map (union_for mine) (range_with_len 0 values))
 kind_by kind values mine = Derived_is (filter_map (λ i. occurrence_by i i.clause.form) mine)
 
@@ -107,11 +117,16 @@ kind_by kind values mine = Derived_is (filter_map (λ i. occurrence_by i i.claus
 -- the units of a name at a place, in the order of their arguments, numbered from its first on
 abbrev pub units_of_name : List Domain → List Instance → ℕ → Name → List PlainUnit
 units_of_name domains all place name =
-    map (λ unit. record { name = place; args = unit.1; kind = kind_by name.kind (length name.values) (instances_at unit.0 all) })
+    map (λ unit. record {
+      name = place;
+      args = unit.1;
+      kind = kind_by name.kind (length name.values) (instances_at unit.0 all);
+    })
     (enumerate_from name.first (arguments_of domains name))
 
 abbrev pub units_by : List Domain → List Instance → ℕ × Name → List PlainUnit
-units_by domains all name = if is_input name.1.kind then [] else units_of_name domains all name.0 name.1
+units_by domains all name = if is_input name.1.kind then [] else units_of_name domains all name.0
+    name.1
 
 abbrev pub units_of : List Domain → List Name → List Instance → List PlainUnit
 units_of domains names all = flat_map (units_by domains all) (enumerate_from 0 names)
@@ -129,14 +144,17 @@ unit_layer of_name unit = slice_index_or of_name unit.name 0
 -- the units of a layer, in order
 abbrev pub units_in_layer : List ℕ → List PlainUnit → ℕ → List ℕ
 units_in_layer of_name units layer =
-    map (λ unit. unit.0) (filter (λ unit. unit_layer of_name unit.1 == layer) (enumerate_from 0 units))
+    map (λ unit. unit.0) (filter (λ unit. unit_layer of_name unit.1 == layer)
+    (enumerate_from 0 units))
 
 -- layer 1, layer 2 and so on
 abbrev pub layers_of : List ℕ → List PlainUnit → List (List ℕ)
-layers_of of_name units = map (units_in_layer of_name units) (range_with_len 1 (greatest_layer of_name))
+layers_of of_name units = map (units_in_layer of_name units)
+    (range_with_len 1 (greatest_layer of_name))
 
 abbrev pub event_count : List Domain → List Name → ℕ
-event_count domains names = sum_by (λ name. if is_input name.kind then length (arguments_of domains name) else 0) names
+event_count domains names = sum_by (λ name. if is_input name.kind
+    then length (arguments_of domains name) else 0) names
 
 abbrev pub numbered_names : PlainChecked → List Name
 numbered_names checked = numbered checked.domains 0 0 checked.names
@@ -147,7 +165,8 @@ clauses checked = clauses_of checked.domains (numbered_names checked) checked.ru
 -- The program of a checked description, from the layers of its names.
 abbrev pub grounded : PlainChecked → List ℕ → PlainProgram
 grounded checked of_name =
-    let units = units_of checked.domains (numbered_names checked) (flat_map instances (clauses checked)) in
+    let units = units_of checked.domains (numbered_names checked)
+    (flat_map instances (clauses checked)) in
     record {
       plan = checked.plan;
       domains = checked.domains;

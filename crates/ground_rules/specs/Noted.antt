@@ -14,4 +14,8 @@ spelled (letter.Further before last) = before.value ++ last ∷ []
 -- a name and the arguments so far
 abbrev pub asked : Part → Asked
 asked (part.Name program word) = record { program = program.value; word = word.value; args = [] }
-asked (part.Argument before word) = record { program = before.value.program; word = before.value.word; args = before.value.args ++ word.value ∷ [] }
+asked (part.Argument before word) = record {
+  program = before.value.program;
+  word = before.value.word;
+  args = before.value.args ++ word.value ∷ [];
+}

@@ -1,5 +1,7 @@
 -- Where instances come from, and the buckets in which they are gathered.
-use Rattle.std.specs.Prelude.{◌≡◌, ◌<◌, ℕ, ◌+◌, ◌^◌, ◌==◌, nat_lt, Bool, ◌&&◌, ◌||◌, List, [], ◌∷◌, ◌++◌, map, flat_map, filter, length, slice_index_or, slice_set, min, Option, Some, None, if◌then◌else◌}
+use Rattle.std.specs.Prelude.{◌≡◌, ◌<◌, ℕ, ◌+◌, ◌^◌, ◌==◌, nat_lt, Bool, ◌&&◌, ◌||◌, List, [], ◌∷◌}
+use Rattle.std.specs.Prelude.{◌++◌, map, flat_map, filter, length, slice_index_or, slice_set, min}
+use Rattle.std.specs.Prelude.{Option, Some, None, if◌then◌else◌}
 use Rattle.std.specs.List.{range_with_len}
 use Rattle.ground_types.specs.Sound.{is_input, arguments_of}
 use Rattle.ground_types.specs.declared.program.Domain.{Domain}
@@ -32,16 +34,19 @@ clause_at clauses statement = slice_index_or clauses statement no_clause
 abbrev pub count_at : List Clause → ℕ → ℕ
 count_at clauses statement = length (assignments (clause_at clauses statement))
 
--- an origin is the place of a statement and that of one of its assignments, of which there are not too many
+-- an origin is the place of a statement and that of one of its assignments, of which there are not
+-- too many
 abbrev pub is_origin : List Clause → Origin → Bool
 is_origin clauses origin =
-    nat_lt origin.statement (length clauses) && nat_lt origin.assignment (count_at clauses origin.statement) && nat_lt (count_at clauses origin.statement) (2 ^ 32)
+    nat_lt origin.statement (length clauses) && nat_lt origin.assignment
+    (count_at clauses origin.statement) && nat_lt (count_at clauses origin.statement) (2 ^ 32)
 
 -- the instance of an origin
 abbrev pub instance_at : List Clause → Origin → Instance
 instance_at clauses origin = record {
   clause = clause_at clauses origin.statement;
-  assignment = slice_index_or (assignments (clause_at clauses origin.statement)) origin.assignment [];
+  assignment = slice_index_or (assignments (clause_at clauses origin.statement)) origin.assignment
+      [];
 }
 
 -- the unit in its head
@@ -54,7 +59,11 @@ is_permitted_at clauses origin = is_permitted (instance_at clauses origin)
 -- the permitted ones among the first origins of the statement at a place
 abbrev pub first_origins : List Clause → ℕ → ℕ → List Origin
 first_origins clauses statement count =
-    filter (is_permitted_at clauses) (map (λ number. record { statement = statement; assignment = number }) (range_with_len 0 count))
+    filter (is_permitted_at clauses) (map (λ number. record {
+      statement = statement;
+      assignment =
+          number;
+    }) (range_with_len 0 count))
 
 -- all permitted ones of the statement at a place
 abbrev pub origins_at : List Clause → ℕ → List Origin
@@ -74,7 +83,8 @@ AreFew clauses = (statement : ℕ) → statement < length clauses → count_at c
 
 -- each unit of a name has a number below this one
 abbrev pub has_units_below : List Domain → ℕ → Name → Bool
-has_units_below domains count name = is_input name.kind || nat_lt (name.first + length (arguments_of domains name)) (count + 1)
+has_units_below domains count name = is_input name.kind
+    || nat_lt (name.first + length (arguments_of domains name)) (count + 1)
 
 abbrev pub lesser_of : Option ℕ → ℕ → ℕ
 lesser_of None n = n

@@ -8,7 +8,9 @@ use Rattle.rule_read.specs.declared.form.EventText.{EventText}
 use Rattle.rule_read.specs.declared.form.EventText.TheVariants as event
 use Rattle.rule_read.specs.declared.form.Body.{Body}
 use Rattle.rule_read.specs.declared.form.Body.TheVariants as body
-use Rattle.rule_read.specs.Forms.{Expression, Expressions, Value_of, Union_of, Intersect_of, Complement_of, none, more, PlainForm, Initially, Initiated, Terminated, Happens, HoldsFor}
+use Rattle.rule_read.specs.Forms.{Expression, Expressions, Value_of, Union_of, Intersect_of}
+use Rattle.rule_read.specs.Forms.{Complement_of, none, more, PlainForm, Initially, Initiated}
+use Rattle.rule_read.specs.Forms.{Terminated, Happens, HoldsFor}
 use Rattle.ground_rules.specs.Assignments.{Instance, word_of}
 
 abbrev pub stated_term : Instance → Term → Term
@@ -27,7 +29,8 @@ stated_event i (event.Start fv) = event.Start (stated_fv i fv)
 stated_event i (event.End fv) = event.End (stated_fv i fv)
 
 abbrev pub stated_condition : Instance → Body → Option Body
-stated_condition i (body.Happens positive event) = Some (body.Happens positive (stated_event i event))
+stated_condition i (body.Happens positive event) =
+    Some (body.Happens positive (stated_event i event))
 stated_condition i (body.Holds positive fv) = Some (body.Holds positive (stated_fv i fv))
 stated_condition i (body.Unequal x y) = None
 
@@ -39,7 +42,8 @@ abbrev mutual
   stated_expression i (Value_of fv) = Value_of (stated_fv i fv)
   stated_expression i (Union_of es) = Union_of (stated_expressions i es)
   stated_expression i (Intersect_of es) = Intersect_of (stated_expressions i es)
-  stated_expression i (Complement_of e es) = Complement_of (stated_expression i e) (stated_expressions i es)
+  stated_expression i (Complement_of e es) = Complement_of (stated_expression i e)
+      (stated_expressions i es)
 
   pub stated_expressions : Instance → Expressions → Expressions
   stated_expressions i none = none

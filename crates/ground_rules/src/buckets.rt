@@ -1,5 +1,6 @@
 // Lists that grow side by side.
-ghost use Rattle.std.specs.Prelude.{◌≡◌, ◌++◌, ◌∷◌, [], map, replicate, slice_index_or, slice_set, IfOk};
+ghost use Rattle.std.specs.Prelude.{◌≡◌, ◌++◌, ◌∷◌, [], map, replicate, slice_index_or, slice_set};
+ghost use Rattle.std.specs.Prelude.{IfOk};
 ghost use Rattle.std.specs.Vec.Iter.{into_iter_items};
 
 use rt_base::{List, OutOfMemory};
@@ -26,7 +27,8 @@ fn lists_of<T: Drop>(
     alloc: Global,
     vectors: &mut IntoIter<Vec<T>>,
 ) -> Result<List<List<T>>, OutOfMemory>
-    ensures { IfOk result (λ lists. lists ≡ map (λ vector. vector.items) (into_iter_items vectors.old)) }
+    ensures { IfOk result (λ lists. lists ≡ map (λ vector. vector.items)
+        (into_iter_items vectors.old)) }
 {
     let mut lists = Vec::with_capacity(alloc, vectors.len())?;
     while let Some(vector) = vectors.next() {
@@ -49,7 +51,8 @@ impl<T: Drop> Buckets<T> {
 
     /// Puts an item behind the others of the list of this number, if there is one.
     pub(crate) fn push(&mut self, number: usize, item: T) -> Result<(), OutOfMemory>
-        ensures { IfOk result (λ _. self.new ≡ slice_set self.old number (slice_index_or self.old number [] ++ (item ∷ []))) }
+        ensures { IfOk result (λ _. self.new ≡ slice_set self.old number
+            (slice_index_or self.old number [] ++ (item ∷ []))) }
     {
         if let Some(list) = self.lists.get_mut(number) {
             list.push(item)?;

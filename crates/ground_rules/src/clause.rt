@@ -18,7 +18,8 @@ use rt_base::{OutOfMemory, Word};
 use rule_read::Form;
 use std::alloc::Global;
 
-/// A statement over declarations, with its variables. Contracts see the statement and the declarations.
+/// A statement over declarations, with its variables. Contracts see the statement and the
+/// declarations.
 #[derive(Drop)]
 pub(crate) struct Clause<'k, 'a> {
     known: &'k Known<'a>,
@@ -29,17 +30,23 @@ pub(crate) struct Clause<'k, 'a> {
     domains: Vec<u32>,
     /// For each variable how many entities its domain has.
     sizes: Vec<u32>,
-    ghost variables_are: { map (λ word. word.now) variables.items ≡ variables_of (plain_form form.now) },
-    ghost domains_are: { domains.items ≡ map (domain_of (clause_by known.now form.now)) (map (λ word. word.now) variables.items) },
+    ghost variables_are: { map (λ word. word.now) variables.items
+        ≡ variables_of (plain_form form.now) },
+    ghost domains_are: { domains.items ≡ map (domain_of (clause_by known.now form.now))
+        (map (λ word. word.now) variables.items) },
     ghost sizes_are: { sizes.items ≡ domain_sizes known.now.domains.now domains.items },
     ghost sound_domains: { list_all is_sound_domain known.now.domains.now ≡ true },
-    ghost sound_names: { list_all (is_sound_name (length known.now.domains.now)) known.now.names.now ≡ true },
-    ghost small_numbers: { list_all (has_small_numbers known.now.domains.now) known.now.names.now ≡ true },
+    ghost sound_names: { list_all (is_sound_name (length known.now.domains.now))
+        known.now.names.now ≡ true },
+    ghost small_numbers: { list_all (has_small_numbers known.now.domains.now) known.now.names.now
+        ≡ true },
 }
 
-// The number of the domain of a variable: that of the first of these places at which it stands, 0 where there is none.
+// The number of the domain of a variable: that of the first of these places at which it stands, 0
+// where there is none.
 fn domain_among(places: &[Place], variable: &Word) -> u32
-    ensures { result ≡ number_at (find (λ place. bytes_eq place.0 variable.now) (places_of places.now)) }
+    ensures { result ≡ number_at (find (λ place. bytes_eq place.0 variable.now)
+        (places_of places.now)) }
 {
     match places
         .iter()
@@ -52,7 +59,9 @@ fn domain_among(places: &[Place], variable: &Word) -> u32
 
 // For each variable the number of its domain.
 fn domains_of(alloc: Global, places: &[Place], variables: &[&Word]) -> Result<Vec<u32>, OutOfMemory>
-    ensures { IfOk result (λ domains. domains.items ≡ map (λ variable. number_at (find (λ place. bytes_eq place.0 variable.now) (places_of places.now))) variables.now) }
+    ensures { IfOk result (λ domains. domains.items
+        ≡ map (λ variable. number_at (find (λ place. bytes_eq place.0 variable.now)
+        (places_of places.now))) variables.now) }
 {
     let mut domains = Vec::with_capacity(alloc, variables.len())?;
     for variable in variables {
@@ -62,14 +71,16 @@ fn domains_of(alloc: Global, places: &[Place], variables: &[&Word]) -> Result<Ve
 }
 
 impl<'k, 'a> Clause<'k, 'a> {
-    /// A statement over these declarations. It takes the time of a walk over the statement for each of its variables.
+    /// A statement over these declarations. It takes the time of a walk over the statement for each
+    /// of its variables.
     pub(crate) fn new(
         alloc: Global,
         known: &'k Known<'a>,
         form: &'k Form,
     ) -> Result<Clause<'k, 'a>, OutOfMemory>
         requires { AreDeclarations known.now.domains.now known.now.names.now }
-        ensures { IfOk result (λ clause. clause_by clause.known.now clause.form.now ≡ clause_by known.now form.now) }
+        ensures { IfOk result (λ clause. clause_by clause.known.now clause.form.now
+            ≡ clause_by known.now form.now) }
     {
         let variables = variables_of(alloc, form)?;
         let places = places(alloc, known, form)?;
@@ -86,9 +97,12 @@ impl<'k, 'a> Clause<'k, 'a> {
 
     /// The declarations.
     pub(crate) fn known(&self) -> &'k Known<'a>
-        ensures domains { result.now.domains.now ≡ (clause_by self.now.known.now self.now.form.now).domains }
-        ensures names { result.now.names.now ≡ (clause_by self.now.known.now self.now.form.now).names }
-        ensures declarations { AreDeclarations (clause_by self.now.known.now self.now.form.now).domains (clause_by self.now.known.now self.now.form.now).names }
+        ensures domains { result.now.domains.now
+            ≡ (clause_by self.now.known.now self.now.form.now).domains }
+        ensures names { result.now.names.now
+            ≡ (clause_by self.now.known.now self.now.form.now).names }
+        ensures declarations { AreDeclarations (clause_by self.now.known.now
+            self.now.form.now).domains (clause_by self.now.known.now self.now.form.now).names }
     {
         self.known
     }
@@ -102,23 +116,30 @@ impl<'k, 'a> Clause<'k, 'a> {
 
     /// How many assignments there are, or the greatest number where there are more.
     pub(crate) fn count(&self) -> u64
-        ensures { result ≡ capped (length (assignments (clause_by self.now.known.now self.now.form.now))) }
+        ensures { result ≡ capped (length
+            (assignments (clause_by self.now.known.now self.now.form.now))) }
     {
         count_lists(self.sizes.as_slice())
     }
 
-    /// Puts the assignment of a number in place of what was there: for each variable the number of its entity.
+    /// Puts the assignment of a number in place of what was there: for each variable the number of
+    /// its entity.
     pub(crate) fn assign(&self, number: u32, into: &mut Vec<u32>) -> Result<(), OutOfMemory>
-        requires inside { number < length (assignments (clause_by self.now.known.now self.now.form.now)) }
-        requires few { length (assignments (clause_by self.now.known.now self.now.form.now)) < 2 ^ 64 }
-        ensures { IfOk result (λ _. slice_get (assignments (clause_by self.now.known.now self.now.form.now)) number ≡ Some into.new.items) }
+        requires inside { number < length
+            (assignments (clause_by self.now.known.now self.now.form.now)) }
+        requires few { length (assignments (clause_by self.now.known.now self.now.form.now))
+            < 2 ^ 64 }
+        ensures { IfOk result (λ _. slice_get
+            (assignments (clause_by self.now.known.now self.now.form.now)) number
+            ≡ Some into.new.items) }
     {
         list_at(self.sizes.as_slice(), number, into)
     }
 
     /// The place of a variable among those of the statement.
     pub(crate) fn place(&self, variable: &Word) -> Option<usize>
-        ensures { result ≡ place_in (variables_of (clause_by self.now.known.now self.now.form.now).form) variable.now }
+        ensures { result ≡ place_in (variables_of (clause_by self.now.known.now
+            self.now.form.now).form) variable.now }
     {
         self.variables
             .iter()

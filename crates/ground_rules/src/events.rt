@@ -24,16 +24,17 @@ fn has_event(domains: &[Domain], name: &Name, event: EventId) -> bool
 // The name of a ground input event.
 fn name_of_event(program: &Program, event: EventId) -> Option<&Name>
     requires { list_all is_sound_domain program.now.domains ≡ true }
-    ensures { option_copied result ≡ find (λ name. has_event program.now.domains name event) program.now.names }
+    ensures { option_copied result ≡ find (λ name. has_event program.now.domains name event)
+        program.now.names }
 {
     let domains = program.domains.as_slice();
     let mut names = program.names.as_slice().iter();
     names.find(|name| has_event(domains, name, event))
 }
 
-/// The name of a ground input event, and in place of what the list had the numbers of its arguments' entities; None where
-/// there is no event of this number. The domains have to be such as `check` gives, with at most 4,096 entities each. It
-/// walks through the names.
+/// The name of a ground input event, and in place of what the list had the numbers of its
+/// arguments' entities; None where there is no event of this number. The domains have to be such as
+/// `check` gives, with at most 4,096 entities each. It walks through the names.
 pub fn event_at<'a>(
     alloc: Global,
     program: &'a Program,
@@ -42,7 +43,8 @@ pub fn event_at<'a>(
 ) -> Result<Option<&'a Name>, OutOfMemory>
     requires sound { IsSound program.now }
     requires domains { list_all is_sound_domain program.now.domains ≡ true }
-    ensures { IfOk result (λ found. option_map (λ name. (name.now, args.new.items)) found ≡ slice_get (event_atoms program.now) event) }
+    ensures { IfOk result (λ found. option_map (λ name. (name.now, args.new.items)) found
+        ≡ slice_get (event_atoms program.now) event) }
 {
     let Some(name) = name_of_event(program, event) else {
         return Ok(None);

@@ -1,5 +1,6 @@
 // Ground events, units and values by their words.
-ghost use Rattle.std.specs.Prelude.{◌≡◌, ◌<◌, ◌+◌, ◌*◌, ◌^◌, ◌++◌, ◌∷◌, [], true, length, slice_get, position, option_copied, IfSome};
+ghost use Rattle.std.specs.Prelude.{◌≡◌, ◌<◌, ◌+◌, ◌*◌, ◌^◌, ◌++◌, ◌∷◌, [], true, length};
+ghost use Rattle.std.specs.Prelude.{slice_get, position, option_copied, IfSome};
 ghost use Rattle.std.specs.List.{list_all};
 ghost use Rattle.std.specs.Str.{bytes_eq};
 ghost use Rattle.ground_types.specs.Sound.{IsSound};
@@ -16,7 +17,8 @@ use std::marker::Model;
 use std::mem;
 use std::snapshot::Snapshot;
 
-// A word as contracts see it, letter by letter. No memory holds a whole one: what is kept is a snapshot, which takes no bytes.
+// A word as contracts see it, letter by letter. No memory holds a whole one: what is kept is a
+// snapshot, which takes no bytes.
 #[cycle(spelling)]
 #[derive(Drop)]
 struct Spelling {
@@ -65,7 +67,8 @@ fn noted_word(word: &[u8]) -> Snapshot<Spelling>
     noted
 }
 
-// A name and its arguments as contracts see them, word by word. What is kept is a snapshot of it too.
+// A name and its arguments as contracts see them, word by word. What is kept is a snapshot of it
+// too.
 #[cycle(question)]
 #[derive(Drop)]
 struct Question {
@@ -120,9 +123,9 @@ struct Reached {
     place: u64,
 }
 
-/// A name and its arguments, word by word, on the way to the ground input event or the ground fluent that they name.
-/// Contracts see the words and the program. It takes no memory: the number of an event or unit is arithmetic on the places
-/// of its arguments.
+/// A name and its arguments, word by word, on the way to the ground input event or the ground
+/// fluent that they name. Contracts see the words and the program. It takes no memory: the number
+/// of an event or unit is arithmetic on the places of its arguments.
 #[derive(Drop)]
 pub struct Finder {
     asked: Snapshot<Question>,
@@ -147,7 +150,8 @@ impl Model for Finder {
 
     ghost view = { λ f. f.asked.value };
 
-    ghost invariant = { λ f. (list_all (has_small_numbers f.asked.value.program.domains) f.asked.value.program.names ≡ true) × (f.reached ≡ how_far f.asked.value) };
+    ghost invariant = { λ f. (list_all (has_small_numbers f.asked.value.program.domains)
+        f.asked.value.program.names ≡ true) × (f.reached ≡ how_far f.asked.value) };
 }
 
 // The place of a word in a list.
@@ -199,8 +203,8 @@ fn next_domain(program: &Program, reached: Reached) -> Option<u32>
     name.args.as_slice().get(reached.count).copied()
 }
 
-// The place of arguments with a further entity among so many, from that of those before it, or the greatest number where
-// it is more.
+// The place of arguments with a further entity among so many, from that of those before it, or the
+// greatest number where it is more.
 fn next_place(place: u64, size: u64, entity: u64) -> u64
     ensures { result ≡ capped (place * size + entity) }
 {
@@ -250,7 +254,11 @@ impl Finder {
     /// A further argument. The search walks through the entities of the domain of its place.
     pub fn push(&mut self, program: &Program, word: &[u8])
         requires same { self.old.program ≡ program.now }
-        ensures { self.new ≡ record { program = self.old.program; word = self.old.word; args = self.old.args ++ (word.now ∷ []) } }
+        ensures { self.new ≡ record {
+          program = self.old.program;
+          word = self.old.word;
+          args = self.old.args ++ (word.now ∷ []);
+        } }
     {
         let nothing = Part::Name(Snapshot::of(program), Letter::Nothing.noted()).noted();
         let before = mem::replace(&mut self.asked, nothing);
@@ -297,8 +305,8 @@ fn name_of_unit(program: &Program, unit: UnitId) -> Option<&Name>
     program.names.as_slice().get(unit.name as usize)
 }
 
-/// The value of a fluent that the word names; None where it is none of its values. It takes no memory: the search walks
-/// through the values.
+/// The value of a fluent that the word names; None where it is none of its values. It takes no
+/// memory: the search walks through the values.
 pub fn value_of(program: &Program, unit: UnitId, word: &[u8]) -> Option<Value>
     requires { IsSound program.now }
     ensures { result ≡ value_named program.now unit word.now }

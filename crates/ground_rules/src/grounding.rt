@@ -8,7 +8,8 @@ ghost use Rattle.ground_types.specs.Sound.{IsSound};
 ghost use Rattle.ground_rules.specs.Assignments.{instances};
 ghost use Rattle.ground_rules.specs.Declarations.{AreDeclarations};
 ghost use Rattle.ground_rules.specs.Clauses.{clause_of};
-ghost use Rattle.ground_rules.specs.Grounded.{plain_unit, clauses_of, clauses, numbered_names, units_of};
+ghost use Rattle.ground_rules.specs.Grounded.{plain_unit, clauses_of, clauses, numbered_names};
+ghost use Rattle.ground_rules.specs.Grounded.{units_of};
 ghost use Rattle.ground_rules.specs.Limits.{first_exceeded, name_tests, clause_tests, row_tests};
 ghost use Rattle.ground_rules.specs.Tests.{Tests};
 ghost use Rattle.ground_rules.specs.Answers.{Answers};
@@ -33,7 +34,8 @@ pub(crate) fn clauses_of<'k, 'a>(
     rules: &'k [Statement],
 ) -> Result<Vec<Clause<'k, 'a>>, OutOfMemory>
     requires { AreDeclarations known.now.domains.now known.now.names.now }
-    ensures { IfOk result (λ found. map clause_of found.items ≡ clauses_of known.now.domains.now known.now.names.now (map plain rules.now)) }
+    ensures { IfOk result (λ found. map clause_of found.items ≡ clauses_of known.now.domains.now
+        known.now.names.now (map plain rules.now)) }
 {
     let mut clauses = Vec::with_capacity(alloc, rules.len())?;
     for rule in rules {
@@ -42,13 +44,17 @@ pub(crate) fn clauses_of<'k, 'a>(
     Ok(clauses)
 }
 
-// The units of a description over its names, which are numbered, if its statements and rows are within the limits.
+// The units of a description over its names, which are numbered, if its statements and rows are
+// within the limits.
 fn units_over(alloc: Global, checked: &Checked, names: &[Name]) -> Result<Vec<Unit>, GroundRefused>
     requires checked { IsSoundChecked checked.now }
     requires names { names.now ≡ numbered_names (plain_checked checked.now) }
     requires few { first_exceeded (name_tests checked.now.domains checked.now.names) ≡ None }
-    ensures tests { Tests result (first_exceeded (clause_tests (clauses (plain_checked checked.now)) ++ row_tests checked.now.domains checked.now.names checked.now.plan.queries)) }
-    ensures units { IfOk result (λ units. map plain_unit units.items ≡ units_of checked.now.domains names.now (flat_map instances (clauses (plain_checked checked.now)))) }
+    ensures tests { Tests result (first_exceeded
+        (clause_tests (clauses (plain_checked checked.now)) ++ row_tests checked.now.domains
+        checked.now.names checked.now.plan.queries)) }
+    ensures units { IfOk result (λ units. map plain_unit units.items ≡ units_of checked.now.domains
+        names.now (flat_map instances (clauses (plain_checked checked.now)))) }
 {
     let domains = checked.domains.as_slice();
     let declared = checked.names.as_slice();
@@ -88,19 +94,22 @@ fn program_of(
 
 /// The program of a description: the ground instances of its statements, unit by unit.
 ///
-/// TooLarge comes exactly where a count exceeds its limit, with the first in this order: Units (65,536), Events
-/// (16,777,216 ground input events), Assignments (1,048,576: for each rule, `holdsFor` and `initially` statement the
-/// product of the sizes of its variables' domains, summed), Rules (262,144 instances of rules and `holdsFor` statements),
-/// Conditions (2,097,152 conditions and leaves of these, without `\=`) and Cells (16,777,216, rows times queries). Nothing
-/// of such a size is made before it is tested. The time is linear in the description, in its assignments and in what is
-/// made. The layers have to be those of the description. The limits and the order of instances are this project's own.
+/// TooLarge comes exactly where a count exceeds its limit, with the first in this order: Units
+/// (65,536), Events (16,777,216 ground input events), Assignments (1,048,576: for each rule,
+/// `holdsFor` and `initially` statement the product of the sizes of its variables' domains,
+/// summed), Rules (262,144 instances of rules and `holdsFor` statements), Conditions (2,097,152
+/// conditions and leaves of these, without `\=`) and Cells (16,777,216, rows times queries).
+/// Nothing of such a size is made before it is tested. The time is linear in the description, in
+/// its assignments and in what is made. The layers have to be those of the description. The limits
+/// and the order of instances are this project's own.
 pub fn ground(
     alloc: Global,
     checked: &Checked,
     layers: &LayerList,
 ) -> Result<Program, GroundRefused>
     requires checked { IsSoundChecked checked.now }
-    requires layers { IsLayering (map plain checked.now.rules) checked.now.names layers.now.of_name }
+    requires layers { IsLayering (map plain checked.now.rules) checked.now.names
+        layers.now.of_name }
     ensures exact { Answers result (plain_checked checked.now) layers.now.of_name }
     ensures sound { IfOk result IsSound }
 {

@@ -1,5 +1,6 @@
 // A statement under an assignment: its atoms, conditions and expressions without variables.
-ghost use Rattle.std.specs.Prelude.{◌≡◌, [], ◌++◌, true, map, filter_map, position, slice_index_or, option_map, option_to_list, IfOk};
+ghost use Rattle.std.specs.Prelude.{◌≡◌, [], ◌++◌, true, map, filter_map, position, slice_index_or};
+ghost use Rattle.std.specs.Prelude.{option_map, option_to_list, IfOk};
 ghost use Rattle.std.specs.Str.{bytes_eq};
 ghost use Rattle.rule_read.specs.Forms.{plain_form, plain_tree};
 ghost use Rattle.domain_decl.specs.Mentions.{conditions_of};
@@ -9,7 +10,10 @@ ghost use Rattle.ground_types.specs.Sound.{arguments_of};
 ghost use Rattle.ground_rules.specs.Numbers.{number_of};
 ghost use Rattle.ground_rules.specs.Counted.{capped, has_small_numbers};
 ghost use Rattle.ground_rules.specs.Assignments.{entity_of, word_of, permits, is_permitted};
-ghost use Rattle.ground_rules.specs.Atoms.{or_zero, ground_term, ground_args, ground_atom, ground_value, event_by, ground_event, ground_condition, ground_rule, head_unit, head_value, plain_expr, ground_expression};
+ghost use Rattle.ground_rules.specs.Atoms.{or_zero, ground_term, ground_args, ground_atom};
+ghost use Rattle.ground_rules.specs.Atoms.{ground_value, event_by, ground_event, ground_condition};
+ghost use Rattle.ground_rules.specs.Atoms.{ground_rule, head_unit, head_value, plain_expr};
+ghost use Rattle.ground_rules.specs.Atoms.{ground_expression};
 ghost use Rattle.ground_rules.specs.Grounded.{opening_by, expression_by};
 ghost use Rattle.ground_rules.specs.Clauses.{clause_of, instance_of, rule_by, is_input_by};
 
@@ -114,9 +118,12 @@ impl<'i, 'k, 'a> Instance<'i, 'k, 'a> {
         }
     }
 
-    // The place of these arguments among all of a name. Terms beyond its places are left out, as `ground_args` has it.
+    // The place of these arguments among all of a name. Terms beyond its places are left out, as
+    // `ground_args` has it.
     fn place(&self, name: &Name, terms: &[Term]) -> Option<u64>
-        ensures { result ≡ option_map capped (position (bytes_eq (ground_args (instance_of self.now) name.now terms.now)) (arguments_of (clause_of self.now.clause.now).domains name.now)) }
+        ensures { result ≡ option_map capped
+            (position (bytes_eq (ground_args (instance_of self.now) name.now terms.now))
+            (arguments_of (clause_of self.now.clause.now).domains name.now)) }
     {
         if terms.len() < name.args.as_slice().len() {
             return None;
@@ -130,10 +137,12 @@ impl<'i, 'k, 'a> Instance<'i, 'k, 'a> {
         Some(place)
     }
 
-    // The number of the ground event or unit of a name with these arguments, 0 where they are none of its.
+    // The number of the ground event or unit of a name with these arguments, 0 where they are none
+    // of its.
     fn number(&self, name: &Name, terms: &[Term]) -> u32
         requires { has_small_numbers (clause_of self.now.clause.now).domains name.now ≡ true }
-        ensures { result ≡ or_zero (number_of (clause_of self.now.clause.now).domains name.now (ground_args (instance_of self.now) name.now terms.now)) }
+        ensures { result ≡ or_zero (number_of (clause_of self.now.clause.now).domains name.now
+            (ground_args (instance_of self.now) name.now terms.now)) }
     {
         match self.place(name, terms) {
             Some(place) => name.first + place as u32,
@@ -166,7 +175,8 @@ impl<'i, 'k, 'a> Instance<'i, 'k, 'a> {
 
     // Whether an atom names an input event.
     fn names_input(&self, atom: &Atom) -> bool
-        ensures { result ≡ is_input_by (declaration (clause_of self.now.clause.now).names atom.now.name) }
+        ensures { result ≡ is_input_by (declaration (clause_of self.now.clause.now).names
+            atom.now.name) }
     {
         match self.clause.known().declaration(&atom.name) {
             Some(name) => matches!(name.kind, NameKind::Input),
@@ -209,7 +219,8 @@ impl<'i, 'k, 'a> Instance<'i, 'k, 'a> {
 
     // Adds a condition without variables, and nothing for `\=`.
     fn add_condition(&self, body: &Body, into: &mut Vec<Cond>) -> Result<(), OutOfMemory>
-        ensures { IfOk result (λ _. into.new.items ≡ into.old.items ++ option_to_list (ground_condition (instance_of self.now) body.now)) }
+        ensures { IfOk result (λ _. into.new.items ≡ into.old.items ++ option_to_list
+            (ground_condition (instance_of self.now) body.now)) }
     {
         match self.condition(body) {
             Some(cond) => into.push(cond)?,
@@ -219,7 +230,8 @@ impl<'i, 'k, 'a> Instance<'i, 'k, 'a> {
     }
 
     fn conditions(&self, alloc: Global, bodies: &[Body]) -> Result<List<Cond>, OutOfMemory>
-        ensures { IfOk result (λ conds. conds ≡ filter_map (ground_condition (instance_of self.now)) bodies.now) }
+        ensures { IfOk result (λ conds. conds
+            ≡ filter_map (ground_condition (instance_of self.now)) bodies.now) }
     {
         let mut conds = Vec::with_capacity(alloc, bodies.len())?;
         for body in bodies {
@@ -287,7 +299,8 @@ impl<'i, 'k, 'a> Instance<'i, 'k, 'a> {
 
     /// The rule that the statement is, where it is of this part.
     pub(crate) fn rule_of(&self, alloc: Global, part: Part) -> Result<Option<Rule>, OutOfMemory>
-        ensures { IfOk result (λ rule. rule ≡ rule_by part (instance_of self.now) (clause_of self.now.clause.now).form) }
+        ensures { IfOk result (λ rule. rule ≡ rule_by part (instance_of self.now)
+            (clause_of self.now.clause.now).form) }
     {
         match (part, self.clause.form()) {
             (Part::Initiation, Form::Initiated(_, bodies))
@@ -302,7 +315,8 @@ impl<'i, 'k, 'a> Instance<'i, 'k, 'a> {
     // An expression without variables.
     #[cycle(expression)]
     fn expression(&self, alloc: Global, tree: &Tree) -> Result<Expr, OutOfMemory>
-        ensures { IfOk result (λ expr. plain_expr expr ≡ ground_expression (instance_of self.now) (plain_tree tree.now)) }
+        ensures { IfOk result (λ expr. plain_expr expr ≡ ground_expression (instance_of self.now)
+            (plain_tree tree.now)) }
     {
         match tree {
             Tree::Leaf(fv) => Ok(Expr::Row(self.atom(&fv.atom), self.value(fv))),
@@ -317,7 +331,8 @@ impl<'i, 'k, 'a> Instance<'i, 'k, 'a> {
 
     #[cycle(expression)]
     fn expressions(&self, alloc: Global, trees: &[Tree]) -> Result<Vec<Expr>, OutOfMemory>
-        ensures { IfOk result (λ exprs. map plain_expr exprs.items ≡ map (λ tree. ground_expression (instance_of self.now) (plain_tree tree)) trees.now) }
+        ensures { IfOk result (λ exprs. map plain_expr exprs.items
+            ≡ map (λ tree. ground_expression (instance_of self.now) (plain_tree tree)) trees.now) }
     {
         let mut exprs = Vec::with_capacity(alloc, trees.len())?;
         for tree in trees {
@@ -328,7 +343,8 @@ impl<'i, 'k, 'a> Instance<'i, 'k, 'a> {
 
     /// The expression of a `holdsFor` statement; None where the statement is another.
     pub(crate) fn expression_of(&self, alloc: Global) -> Result<Option<Expr>, OutOfMemory>
-        ensures { IfOk result (λ expr. option_map plain_expr expr ≡ expression_by (instance_of self.now) (clause_of self.now.clause.now).form) }
+        ensures { IfOk result (λ expr. option_map plain_expr expr
+            ≡ expression_by (instance_of self.now) (clause_of self.now.clause.now).form) }
     {
         match self.clause.form() {
             Form::HoldsFor(_, tree) => Ok(Some(self.expression(alloc, tree)?)),

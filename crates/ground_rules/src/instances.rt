@@ -10,15 +10,16 @@ use crate::buckets::Buckets;
 use crate::clause::Clause;
 use crate::units::Origin;
 
-/// The instances of a description's statements, each listed by the unit in its head. It borrows the description and makes
-/// an instance when it is asked for.
+/// The instances of a description's statements, each listed by the unit in its head. It borrows the
+/// description and makes an instance when it is asked for.
 #[derive(Drop)]
 pub struct Instances<'k, 'a> {
     pub(crate) clauses: Vec<Clause<'k, 'a>>,
     pub(crate) origins: Buckets<Origin>,
     /// How many instances of rules and `holdsFor` statements there are.
     pub(crate) rules: u64,
-    ghost are_rules: { list_all (λ clause. is_rule clause.form) (map clause_of clauses.items) ≡ true },
+    ghost are_rules: { list_all (λ clause. is_rule clause.form) (map clause_of clauses.items)
+        ≡ true },
     ghost are_few: { AreFew (map clause_of clauses.items) },
     ghost are_origins: { AreOrigins (map clause_of clauses.items) origins },
     ghost rules_are: { rules ≡ rule_count (map clause_of clauses.items) },

@@ -1,8 +1,8 @@
-//! Grounding: a checked description becomes a program without variables.
-//! Its promise: `ground` gives exactly the program of the definitions, which is sound, and refuses exactly where a limit is
-//! exceeded (want of memory aside); `Finder` and `value_of` find what words name, `event_at` gives the words of an event,
-//! and `Instances` the statements without variables that define each unit. It stands on `domain_decl`, `strata_check`,
-//! `ground_types` and what these stand on.
+//! Grounding: a checked description becomes a program without variables. Its promise: `ground`
+//! gives exactly the program of the definitions, which is sound, and refuses exactly where a limit
+//! is exceeded (want of memory aside); `Finder` and `value_of` find what words name, `event_at`
+//! gives the words of an event, and `Instances` the statements without variables that define each
+//! unit. It stands on `domain_decl`, `strata_check`, `ground_types` and what these stand on.
 #![tactic(auto)]
 
 mod buckets;

@@ -1,5 +1,6 @@
 // The limits on what a description comes to.
-ghost use Rattle.std.specs.Prelude.{◌≡◌, ◌≤◌, ◌*◌, nat_lt, true, map, flat_map, filter, length, Ok, Err, IfOk, if◌then◌else◌};
+ghost use Rattle.std.specs.Prelude.{◌≡◌, ◌≤◌, ◌*◌, nat_lt, true, map, flat_map, filter, length, Ok};
+ghost use Rattle.std.specs.Prelude.{Err, IfOk, if◌then◌else◌};
 ghost use Rattle.std.specs.List.{list_all};
 ghost use Rattle.rule_read.specs.Forms.{plain_form, plain_tree};
 ghost use Rattle.ground_types.specs.Sound.{is_input};
@@ -8,7 +9,10 @@ ghost use Rattle.domain_decl.specs.Sound.{is_sound_domain};
 ghost use Rattle.ground_rules.specs.Counted.{capped};
 ghost use Rattle.ground_rules.specs.Assignments.{assignments, instances};
 ghost use Rattle.ground_rules.specs.Grounded.{event_count};
-ghost use Rattle.ground_rules.specs.Limits.{unit_count, rows_of_unit, row_count, assignment_count, counts_as_rule, rules_in, rule_count, is_condition, conditions_in, condition_count, first_exceeded, name_tests, clause_tests, row_tests};
+ghost use Rattle.ground_rules.specs.Limits.{unit_count, rows_of_unit, row_count, assignment_count};
+ghost use Rattle.ground_rules.specs.Limits.{counts_as_rule, rules_in, rule_count, is_condition};
+ghost use Rattle.ground_rules.specs.Limits.{conditions_in, condition_count, first_exceeded};
+ghost use Rattle.ground_rules.specs.Limits.{name_tests, clause_tests, row_tests};
 ghost use Rattle.ground_rules.specs.Tests.{Tests};
 ghost use Rattle.ground_rules.specs.Clauses.{clause_of};
 ghost use Rattle.ground_rules.specs.declared.refused.GroundRefused.TheVariants.{TooLarge};
@@ -30,7 +34,8 @@ pub(crate) fn is_input(kind: NameKind) -> bool
     matches!(kind, NameKind::Input)
 }
 
-/// How many units there are, or the greatest number where there are more; so it is with each count here.
+/// How many units there are, or the greatest number where there are more; so it is with each count
+/// here.
 pub(crate) fn unit_count(domains: &[Domain], names: &[Name]) -> u64
     requires { list_all is_sound_domain domains.now ≡ true }
     ensures { result ≡ capped (unit_count domains.now names.now) }
@@ -192,8 +197,10 @@ struct Totals {
 
 fn totals_of(alloc: Global, clauses: &[Clause]) -> Result<Totals, OutOfMemory>
     requires { assignment_count (map clause_of clauses.now) ≤ 1048576 }
-    ensures rules { IfOk result (λ totals. totals.rules ≡ capped (rule_count (map clause_of clauses.now))) }
-    ensures conditions { IfOk result (λ totals. totals.conditions ≡ capped (condition_count (map clause_of clauses.now))) }
+    ensures rules { IfOk result (λ totals. totals.rules
+        ≡ capped (rule_count (map clause_of clauses.now))) }
+    ensures conditions { IfOk result (λ totals. totals.conditions
+        ≡ capped (condition_count (map clause_of clauses.now))) }
 {
     let mut totals = Totals {
         rules: 0,
@@ -238,8 +245,8 @@ pub(crate) fn test_names(domains: &[Domain], names: &[Name]) -> Result<(), Groun
     test(event_count(domains, names), 16_777_216, Limit::Events)
 }
 
-/// Tests how many assignments, instances and conditions the statements come to. The instances are counted one by one,
-/// once it is known that there are not too many assignments.
+/// Tests how many assignments, instances and conditions the statements come to. The instances are
+/// counted one by one, once it is known that there are not too many assignments.
 pub(crate) fn test_clauses(alloc: Global, clauses: &[Clause]) -> Result<(), GroundRefused>
     ensures { Tests result (first_exceeded (clause_tests (map clause_of clauses.now))) }
 {

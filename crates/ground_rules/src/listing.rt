@@ -19,8 +19,8 @@ use rule_read::Form;
 use std::alloc::Global;
 
 impl<'k, 'a> Instances<'k, 'a> {
-    /// The instances of a description that exceeds no limit, over its domains and the names of its program. The time is
-    /// linear in the description and in its assignments.
+    /// The instances of a description that exceeds no limit, over its domains and the names of its
+    /// program. The time is linear in the description and in its assignments.
     pub fn new(
         alloc: Global,
         known: &'k Known<'a>,
@@ -58,12 +58,13 @@ impl<'k, 'a> Instances<'k, 'a> {
         self.origins.get(unit as usize).len()
     }
 
-    /// What the instance at a place among those of a unit says, with entities in place of variables and without `\=`; they
-    /// are in the order of the text and then of the assignments.
+    /// What the instance at a place among those of a unit says, with entities in place of variables
+    /// and without `\=`; they are in the order of the text and then of the assignments.
     pub fn form_at(&self, alloc: Global, unit: UnitId, place: usize) -> Result<Form, OutOfMemory>
         requires unit { unit < unit_bound self.now }
         requires place { place < length (listed_at self.now unit) }
-        ensures { IfOk result (λ form. option_map stated (slice_get (listed_at self.now unit) place) ≡ Some (plain_form form)) }
+        ensures { IfOk result (λ form. option_map stated (slice_get (listed_at self.now unit)
+            place) ≡ Some (plain_form form)) }
     {
         let origin = self.origins.get(unit as usize)[place];
         let mut assignment = Vec::new(alloc);

@@ -1,5 +1,5 @@
-// Lists of numbers below given sizes, in order, the first number slowest: how many there are, which stands at a place,
-// and at which place one stands.
+// Lists of numbers below given sizes, in order, the first number slowest: how many there are, which
+// stands at a place, and at which place one stands.
 ghost use Rattle.std.specs.Prelude.{◌≡◌, ◌<◌, ◌^◌, true, length, slice_get, Some, option_map, IfOk};
 ghost use Rattle.std.specs.List.{list_all};
 ghost use Rattle.ground_types.specs.Sound.{argument_lists, domain_sizes, entity_count};
@@ -37,7 +37,8 @@ pub(crate) fn sizes_of(
     Ok(sizes)
 }
 
-/// How many lists of numbers below these sizes there are, or the greatest number where there are more.
+/// How many lists of numbers below these sizes there are, or the greatest number where there are
+/// more.
 pub(crate) fn count_lists(sizes: &[u32]) -> u64
     ensures { result ≡ capped (length (argument_lists sizes.now)) }
 {
@@ -48,7 +49,8 @@ pub(crate) fn count_lists(sizes: &[u32]) -> u64
     count
 }
 
-/// How many arguments over the domains of these numbers there are, or the greatest number where there are more.
+/// How many arguments over the domains of these numbers there are, or the greatest number where
+/// there are more.
 pub(crate) fn count_arguments(domains: &[Domain], numbers: &[u32]) -> u64
     requires { list_all is_sound_domain domains.now ≡ true }
     ensures { result ≡ capped (length (argument_lists (domain_sizes domains.now numbers.now))) }
@@ -60,14 +62,16 @@ pub(crate) fn count_arguments(domains: &[Domain], numbers: &[u32]) -> u64
     count
 }
 
-/// Puts the list at a place in the order of all lists of numbers below these sizes in place of what was there.
+/// Puts the list at a place in the order of all lists of numbers below these sizes in place of what
+/// was there.
 pub(crate) fn list_at(sizes: &[u32], place: u32, into: &mut Vec<u32>) -> Result<(), OutOfMemory>
     requires inside { place < length (argument_lists sizes.now) }
     requires few { length (argument_lists sizes.now) < 2 ^ 64 }
     ensures { IfOk result (λ _. slice_get (argument_lists sizes.now) place ≡ Some into.new.items) }
 {
     into.clear();
-    // How many lists there are of the numbers that are left, and at which place of theirs the list is.
+    // How many lists there are of the numbers that are left, and at which place of theirs the list
+    // is.
     let mut count = count_lists(sizes);
     let mut rest = place as u64;
     for size in sizes {
@@ -78,8 +82,8 @@ pub(crate) fn list_at(sizes: &[u32], place: u32, into: &mut Vec<u32>) -> Result<
     Ok(())
 }
 
-/// The place of a list that goes on by a number below a size, from that of the numbers before it; None where the number
-/// is not below the size. It is the greatest number where it would be more.
+/// The place of a list that goes on by a number below a size, from that of the numbers before it;
+/// None where the number is not below the size. It is the greatest number where it would be more.
 pub(crate) fn next_place(place: u64, size: u32, number: u32) -> Option<u64>
     ensures { result ≡ option_map capped (ranked (Some place) (size, number)) }
 {

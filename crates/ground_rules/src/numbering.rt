@@ -63,8 +63,10 @@ impl Counts {
         requires events { self.old.events + count < 2 ^ 32 }
         requires units { self.old.units + count < 2 ^ 32 }
         ensures first { result ≡ (if is_input kind then self.old.events else self.old.units) }
-        ensures events { self.new.events ≡ (if is_input kind then self.old.events + count else self.old.events) }
-        ensures units { self.new.units ≡ (if is_input kind then self.old.units else self.old.units + count) }
+        ensures events { self.new.events ≡ (if is_input kind then self.old.events + count
+            else self.old.events) }
+        ensures units { self.new.units ≡ (if is_input kind then self.old.units
+            else self.old.units + count) }
     {
         match kind {
             NameKind::Input => {

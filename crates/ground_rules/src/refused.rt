@@ -4,7 +4,8 @@ use rt_base::{Limit, OutOfMemory};
 /// Why a checked description has no program.
 #[derive(Clone, Copy, Debug, PartialEq, Eq)]
 pub enum GroundRefused {
-    /// The first limit that the counts of the description exceed: units, events, assignments, rules, conditions, cells.
+    /// The first limit that the counts of the description exceed: units, events, assignments,
+    /// rules, conditions, cells.
     TooLarge { limit: Limit },
     /// Memory ran out. No clause ties this answer to a refused growth.
     OutOfMemory,

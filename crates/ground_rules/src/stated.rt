@@ -3,7 +3,9 @@ ghost use Rattle.std.specs.Prelude.{◌≡◌, ◌++◌, true, map, option_to_li
 ghost use Rattle.rule_read.specs.Forms.{plain_form, plain_tree};
 ghost use Rattle.domain_decl.specs.Contents.{is_rule};
 ghost use Rattle.ground_rules.specs.Clauses.{instance_of};
-ghost use Rattle.ground_rules.specs.Stated.{stated_term, stated_atom, stated_fv, stated_event, stated_condition, stated_conditions, stated_expression, stated};
+ghost use Rattle.ground_rules.specs.Stated.{stated_term, stated_atom, stated_fv, stated_event};
+ghost use Rattle.ground_rules.specs.Stated.{stated_condition, stated_conditions, stated_expression};
+ghost use Rattle.ground_rules.specs.Stated.{stated};
 
 use crate::instance::Instance;
 use rt_base::{List, OutOfMemory, Word};
@@ -21,7 +23,8 @@ impl<'i, 'k, 'a> Instance<'i, 'k, 'a> {
     }
 
     fn stated_terms(&self, alloc: Global, terms: &[Term]) -> Result<List<Term>, OutOfMemory>
-        ensures { IfOk result (λ stated. stated ≡ map (stated_term (instance_of self.now)) terms.now) }
+        ensures { IfOk result (λ stated. stated ≡ map (stated_term (instance_of self.now))
+            terms.now) }
     {
         let mut stated = Vec::with_capacity(alloc, terms.len())?;
         for term in terms {
@@ -58,7 +61,8 @@ impl<'i, 'k, 'a> Instance<'i, 'k, 'a> {
 
     // None for `\=`.
     fn stated_condition(&self, alloc: Global, body: &Body) -> Result<Option<Body>, OutOfMemory>
-        ensures { IfOk result (λ stated. stated ≡ stated_condition (instance_of self.now) body.now) }
+        ensures { IfOk result (λ stated. stated ≡ stated_condition (instance_of self.now)
+            body.now) }
     {
         match body {
             Body::Happens { positive, event } => Ok(Some(Body::Happens {
@@ -80,7 +84,8 @@ impl<'i, 'k, 'a> Instance<'i, 'k, 'a> {
         body: &Body,
         into: &mut Vec<Body>,
     ) -> Result<(), OutOfMemory>
-        ensures { IfOk result (λ _. into.new.items ≡ into.old.items ++ option_to_list (stated_condition (instance_of self.now) body.now)) }
+        ensures { IfOk result (λ _. into.new.items ≡ into.old.items ++ option_to_list
+            (stated_condition (instance_of self.now) body.now)) }
     {
         match self.stated_condition(alloc, body)? {
             Some(stated) => into.push(stated)?,
@@ -90,7 +95,8 @@ impl<'i, 'k, 'a> Instance<'i, 'k, 'a> {
     }
 
     fn stated_conditions(&self, alloc: Global, bodies: &[Body]) -> Result<List<Body>, OutOfMemory>
-        ensures { IfOk result (λ stated. stated ≡ stated_conditions (instance_of self.now) bodies.now) }
+        ensures { IfOk result (λ stated. stated ≡ stated_conditions (instance_of self.now)
+            bodies.now) }
     {
         let mut stated = Vec::with_capacity(alloc, bodies.len())?;
         for body in bodies {
@@ -101,7 +107,8 @@ impl<'i, 'k, 'a> Instance<'i, 'k, 'a> {
 
     #[cycle(stated)]
     fn stated_tree(&self, alloc: Global, tree: &Tree) -> Result<Tree, OutOfMemory>
-        ensures { IfOk result (λ stated. plain_tree stated ≡ stated_expression (instance_of self.now) (plain_tree tree.now)) }
+        ensures { IfOk result (λ stated. plain_tree stated ≡ stated_expression
+            (instance_of self.now) (plain_tree tree.now)) }
     {
         match tree {
             Tree::Leaf(fv) => Ok(Tree::Leaf(self.stated_fv(alloc, fv)?)),
@@ -116,7 +123,8 @@ impl<'i, 'k, 'a> Instance<'i, 'k, 'a> {
 
     #[cycle(stated)]
     fn stated_trees(&self, alloc: Global, trees: &[Tree]) -> Result<Vec<Tree>, OutOfMemory>
-        ensures { IfOk result (λ stated. map plain_tree stated.items ≡ map (λ tree. stated_expression (instance_of self.now) (plain_tree tree)) trees.now) }
+        ensures { IfOk result (λ stated. map plain_tree stated.items
+            ≡ map (λ tree. stated_expression (instance_of self.now) (plain_tree tree)) trees.now) }
     {
         let mut stated = Vec::with_capacity(alloc, trees.len())?;
         for tree in trees {

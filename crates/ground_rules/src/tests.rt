@@ -1,5 +1,5 @@
-// Programs of whole descriptions, worked by hand; limits at their borders; words that name events, fluents and values; and
-// the words of units and events.
+// Programs of whole descriptions, worked by hand; limits at their borders; words that name events,
+// fluents and values; and the words of units and events.
 ghost use Rattle.std.specs.Prelude.{◌<◌, Ok, IfSome, IfOk};
 ghost use Rattle.ground_types.specs.Sound.{IsSound};
 ghost use Rattle.domain_decl.specs.Sound.{IsSound as IsSoundChecked};
@@ -225,8 +225,8 @@ fn programs_are_as_worked_by_hand(rt: HostRuntime) -> Result<(), Fail> {
     Ok(())
 }
 
-// Two domains with words in common, three arguments, several values, variables in the body alone, `initially` with a
-// variable and twice for one fluent, and all kinds of names.
+// Two domains with words in common, three arguments, several values, variables in the body alone,
+// `initially` with a variable and twice for one fluent, and all kinds of names.
 const PORT: &str = "window(10). step(5).
 domain ship [x, y].
 domain port [y, z, x].
@@ -245,7 +245,8 @@ happensAt(meets(S, T)) :- happensAt(start(within(S, P)=yes)), S \\= T, holdsAt(w
 initiatedAt(light=green) :- happensAt(meets(S, T)), not happensAt(bell).
 holdsFor(near(S, T, P)=true) :- intersect_all([within(S, P)=yes, within(T, P)=yes]).";
 
-// A ship enters a port of another word and leaves a port by entering another; two different ships meet.
+// A ship enters a port of another word and leaves a port by entering another; two different ships
+// meet.
 const PORT_SHOWN: &str = "events 7 from 0 6 0 6 7 19
 layer 0 1 2 3 4 5
 layer 7 8 9 10 11 12 13 14 15 16 17 18 19 20 21 22
@@ -282,7 +283,8 @@ fn instances_are_in_the_order_of_text_and_variables(rt: HostRuntime) -> Result<(
     Ok(())
 }
 
-// The end of a value, two instances of one unit and value, two values with instances, and an event that must not happen.
+// The end of a value, two instances of one unit and value, two values with instances, and an event
+// that must not happen.
 const DOORS: &str = "window(10). step(5).
 domain door [front, back].
 input opens(door).
@@ -357,7 +359,8 @@ const CELLS: &str = "simple f(d, d) [a].";
 
 const ONE_ROW_MORE: &str = "simple f(d, d) [a]. simple g [a].";
 
-// Conditions at their limit: so many statements of 64 leaves over 128 entities, and a rule of one condition.
+// Conditions at their limit: so many statements of 64 leaves over 128 entities, and a rule of one
+// condition.
 fn leaves(alloc: Global, statements: u32, rest: &str) -> Result<String, Fail> {
     let mut text = String::from_str(
         alloc,
@@ -475,8 +478,8 @@ fn lines_of(alloc: Global, listed: &Instances, unit: u32) -> Result<Vec<u8>, Out
     Ok(lines)
 }
 
-// How many rules a description has, and the statements without variables that define a unit; None where there is no unit
-// of this number.
+// How many rules a description has, and the statements without variables that define a unit; None
+// where there is no unit of this number.
 fn lines_over(
     alloc: Global,
     checked: &Checked,

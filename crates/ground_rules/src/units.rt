@@ -1,5 +1,7 @@
 // The units of a description.
-ghost use Rattle.std.specs.Prelude.{◌≡◌, ◌++◌, ◌∷◌, [], ◌≤◌, ◌<◌, ◌^◌, true, cond, map, flat_map, filter_map, find, fold, length, slice_get, option_map, Some, IfOk};
+ghost use Rattle.std.specs.Prelude.{◌≡◌, ◌++◌, ◌∷◌, [], ◌≤◌, ◌<◌, ◌^◌, true, cond, map, flat_map};
+ghost use Rattle.std.specs.Prelude.{filter_map, find, fold, length, slice_get, option_map, Some};
+ghost use Rattle.std.specs.Prelude.{IfOk};
 ghost use Rattle.std.specs.List.{list_all, range_with_len};
 ghost use Rattle.ground_types.specs.Members.{contains};
 ghost use Rattle.ground_types.specs.Sound.{is_input, argument_lists};
@@ -7,10 +9,13 @@ ghost use Rattle.domain_decl.specs.Sound.{is_sound_domain};
 ghost use Rattle.ground_rules.specs.Counted.{has_small_numbers};
 ghost use Rattle.ground_rules.specs.Assignments.{instances};
 ghost use Rattle.ground_rules.specs.Atoms.{head_value, Union_is, all_of, plain_expr};
-ghost use Rattle.ground_rules.specs.Grounded.{plain_kind, plain_unit, expression_by, opening_by, opening_of, union_for, kind_by, units_by, units_of};
+ghost use Rattle.ground_rules.specs.Grounded.{plain_kind, plain_unit, expression_by, opening_by};
+ghost use Rattle.ground_rules.specs.Grounded.{opening_of, union_for, kind_by, units_by, units_of};
 ghost use Rattle.ground_rules.specs.Clauses.{clause_of, instance_of, rule_by};
 ghost use Rattle.ground_rules.specs.Limits.{assignment_count};
-ghost use Rattle.ground_rules.specs.Origins.{gathered, put, count_at, is_origin, instance_at, unit_at, is_permitted_at, origins_at, origins_of, AreOrigins, AreFew, has_units_below, lesser};
+ghost use Rattle.ground_rules.specs.Origins.{gathered, put, count_at, is_origin, instance_at};
+ghost use Rattle.ground_rules.specs.Origins.{unit_at, is_permitted_at, origins_at, origins_of};
+ghost use Rattle.ground_rules.specs.Origins.{AreOrigins, AreFew, has_units_below, lesser};
 
 use crate::buckets::Buckets;
 use crate::clause::Clause;
@@ -35,7 +40,8 @@ pub(crate) fn enter<'i, 'k, 'a>(
     assignment: &'i mut Vec<u32>,
 ) -> Result<Instance<'i, 'k, 'a>, OutOfMemory>
     requires { is_origin (map clause_of clauses.now) origin ≡ true }
-    ensures { IfOk result (λ instance. instance_of instance ≡ instance_at (map clause_of clauses.now) origin) }
+    ensures { IfOk result (λ instance. instance_of instance
+        ≡ instance_at (map clause_of clauses.now) origin) }
 {
     let clause = &clauses[origin.statement];
     clause.assign(origin.assignment, assignment)?;
@@ -53,7 +59,8 @@ fn add_origin(
     origins: &mut Buckets<Origin>,
 ) -> Result<(), OutOfMemory>
     requires { is_origin (map clause_of clauses.now) origin ≡ true }
-    ensures { IfOk result (λ _. origins.new ≡ fold (put (unit_at (map clause_of clauses.now))) origins.old (cond (is_permitted_at (map clause_of clauses.now) origin) (origin ∷ []) [])) }
+    ensures { IfOk result (λ _. origins.new ≡ fold (put (unit_at (map clause_of clauses.now)))
+        origins.old (cond (is_permitted_at (map clause_of clauses.now) origin) (origin ∷ []) [])) }
 {
     let instance = enter(&*clauses, origin, assignment)?;
     if instance.is_permitted() {
@@ -71,7 +78,8 @@ fn add_origins(
 ) -> Result<(), OutOfMemory>
     requires inside { statement < length clauses.now }
     requires few { count_at (map clause_of clauses.now) statement < 2 ^ 32 }
-    ensures { IfOk result (λ _. origins.new ≡ fold (put (unit_at (map clause_of clauses.now))) origins.old (origins_at (map clause_of clauses.now) statement)) }
+    ensures { IfOk result (λ _. origins.new ≡ fold (put (unit_at (map clause_of clauses.now)))
+        origins.old (origins_at (map clause_of clauses.now) statement)) }
 {
     for number in 0..clauses[statement].count() as u32 {
         let origin = Origin {
@@ -83,15 +91,16 @@ fn add_origins(
     Ok(())
 }
 
-/// For each of so many units the permitted origins of the instances that have it as head, in the order of the text and then
-/// of the assignments.
+/// For each of so many units the permitted origins of the instances that have it as head, in the
+/// order of the text and then of the assignments.
 pub(crate) fn origins_of(
     alloc: Global,
     clauses: &[Clause],
     units: usize,
 ) -> Result<Buckets<Origin>, OutOfMemory>
     requires { AreFew (map clause_of clauses.now) }
-    ensures { IfOk result (λ lists. lists ≡ gathered (unit_at (map clause_of clauses.now)) units (origins_of (map clause_of clauses.now))) }
+    ensures { IfOk result (λ lists. lists ≡ gathered (unit_at (map clause_of clauses.now)) units
+        (origins_of (map clause_of clauses.now))) }
 {
     let mut origins = Buckets::new(alloc, units)?;
     let mut assignment = Vec::new(alloc);
@@ -109,7 +118,8 @@ fn rules_of(
     mine: &[Origin],
 ) -> Result<List<Rule>, OutOfMemory>
     requires { list_all (is_origin (map clause_of clauses.now)) mine.now ≡ true }
-    ensures { IfOk result (λ rules. rules ≡ filter_map (λ i. rule_by part i i.clause.form) (map (instance_at (map clause_of clauses.now)) mine.now)) }
+    ensures { IfOk result (λ rules. rules ≡ filter_map (λ i. rule_by part i i.clause.form)
+        (map (instance_at (map clause_of clauses.now)) mine.now)) }
 {
     let mut rules = Vec::new(alloc);
     let mut assignment = Vec::new(alloc);
@@ -125,7 +135,8 @@ fn rules_of(
 // The values that `initially` statements among some instances give.
 fn openings_of(alloc: Global, clauses: &[Clause], mine: &[Origin]) -> Result<Vec<u32>, OutOfMemory>
     requires { list_all (is_origin (map clause_of clauses.now)) mine.now ≡ true }
-    ensures { IfOk result (λ values. values.items ≡ filter_map (λ i. opening_by i i.clause.form) (map (instance_at (map clause_of clauses.now)) mine.now)) }
+    ensures { IfOk result (λ values. values.items ≡ filter_map (λ i. opening_by i i.clause.form)
+        (map (instance_at (map clause_of clauses.now)) mine.now)) }
 {
     let mut values = Vec::new(alloc);
     let mut assignment = Vec::new(alloc);
@@ -170,7 +181,8 @@ fn opening_of(
     mine: &[Origin],
 ) -> Result<Option<u32>, OutOfMemory>
     requires { list_all (is_origin (map clause_of clauses.now)) mine.now ≡ true }
-    ensures { IfOk result (λ value. value ≡ opening_of values (map (instance_at (map clause_of clauses.now)) mine.now)) }
+    ensures { IfOk result (λ value. value ≡ opening_of values
+        (map (instance_at (map clause_of clauses.now)) mine.now)) }
 {
     let given = openings_of(alloc, clauses, mine)?;
     Ok(first_given(values, given.as_slice()))
@@ -184,7 +196,9 @@ fn by_value(
     mine: &[Origin],
 ) -> Result<Buckets<Origin>, OutOfMemory>
     requires { list_all (is_origin (map clause_of clauses.now)) mine.now ≡ true }
-    ensures { IfOk result (λ origins. origins ≡ gathered (λ origin. head_value (instance_at (map clause_of clauses.now) origin)) values mine.now) }
+    ensures { IfOk result (λ origins. origins
+        ≡ gathered (λ origin. head_value (instance_at (map clause_of clauses.now) origin)) values
+        mine.now) }
 {
     let mut origins = Buckets::new(alloc, values)?;
     let mut assignment = Vec::new(alloc);
@@ -198,7 +212,9 @@ fn by_value(
 // The union of the expressions of some instances.
 fn union_of(alloc: Global, clauses: &[Clause], mine: &[Origin]) -> Result<Expr, OutOfMemory>
     requires { list_all (is_origin (map clause_of clauses.now)) mine.now ≡ true }
-    ensures { IfOk result (λ expr. plain_expr expr ≡ Union_is (all_of (filter_map (λ i. expression_by i i.clause.form) (map (instance_at (map clause_of clauses.now)) mine.now)))) }
+    ensures { IfOk result (λ expr. plain_expr expr
+        ≡ Union_is (all_of (filter_map (λ i. expression_by i i.clause.form)
+        (map (instance_at (map clause_of clauses.now)) mine.now)))) }
 {
     let mut members = Vec::new(alloc);
     let mut assignment = Vec::new(alloc);
@@ -219,7 +235,9 @@ fn unions_of(
     mine: &[Origin],
 ) -> Result<List<Expr>, OutOfMemory>
     requires { list_all (is_origin (map clause_of clauses.now)) mine.now ≡ true }
-    ensures { IfOk result (λ exprs. map plain_expr exprs ≡ map (union_for (map (instance_at (map clause_of clauses.now)) mine.now)) (range_with_len 0 values)) }
+    ensures { IfOk result (λ exprs. map plain_expr exprs
+        ≡ map (union_for (map (instance_at (map clause_of clauses.now)) mine.now))
+        (range_with_len 0 values)) }
 {
     let origins = by_value(alloc, values, clauses, mine)?;
     let mut exprs = Vec::with_capacity(alloc, values)?;
@@ -237,7 +255,8 @@ fn kind_of(
     mine: &[Origin],
 ) -> Result<UnitKind, OutOfMemory>
     requires { list_all (is_origin (map clause_of clauses.now)) mine.now ≡ true }
-    ensures { IfOk result (λ kind. plain_kind kind ≡ kind_by name.now.kind (length name.now.values) (map (instance_at (map clause_of clauses.now)) mine.now)) }
+    ensures { IfOk result (λ kind. plain_kind kind ≡ kind_by name.now.kind (length name.now.values)
+        (map (instance_at (map clause_of clauses.now)) mine.now)) }
 {
     let values = name.values.as_slice().len();
     match name.kind {
@@ -264,7 +283,13 @@ fn unit_at(
     requires inside { number < length (argument_lists sizes.now) }
     requires few { length (argument_lists sizes.now) < 2 ^ 64 }
     requires origins { list_all (is_origin (map clause_of clauses.now)) mine.now ≡ true }
-    ensures { IfOk result (λ unit. option_map (λ args. record { name = place; args = args; kind = kind_by name.now.kind (length name.now.values) (map (instance_at (map clause_of clauses.now)) mine.now) }) (slice_get (argument_lists sizes.now) number) ≡ Some (plain_unit unit)) }
+    ensures { IfOk result (λ unit. option_map (λ args. record {
+      name = place;
+      args = args;
+      kind = kind_by name.now.kind (length name.now.values)
+          (map (instance_at (map clause_of clauses.now)) mine.now);
+    })
+        (slice_get (argument_lists sizes.now) number) ≡ Some (plain_unit unit)) }
 {
     let mut args = Vec::new(alloc);
     list_at(sizes, number, &mut args)?;
@@ -290,7 +315,9 @@ fn add_units(
     requires few { AreFew (map clause_of clauses.now) }
     requires origins { AreOrigins (map clause_of clauses.now) origins.now }
     requires below { has_units_below domains.now (length origins.now) name.now ≡ true }
-    ensures { IfOk result (λ _. map plain_unit units.new.items ≡ map plain_unit units.old.items ++ units_by domains.now (flat_map instances (map clause_of clauses.now)) (place, name.now)) }
+    ensures { IfOk result (λ _. map plain_unit units.new.items ≡ map plain_unit units.old.items
+        ++ units_by domains.now (flat_map instances (map clause_of clauses.now))
+        (place, name.now)) }
 {
     if is_input(name.kind) {
         return Ok(());
@@ -303,7 +330,8 @@ fn add_units(
     Ok(())
 }
 
-/// The units of these names, which are numbered, in order, each with the instances that define it. Their number is given.
+/// The units of these names, which are numbered, in order, each with the instances that define it.
+/// Their number is given.
 pub(crate) fn units_of(
     alloc: Global,
     domains: &[Domain],
@@ -316,7 +344,8 @@ pub(crate) fn units_of(
     requires below { list_all (has_units_below domains.now count) names.now ≡ true }
     requires names { length names.now < 2 ^ 32 }
     requires assignments { assignment_count (map clause_of clauses.now) ≤ 1048576 }
-    ensures { IfOk result (λ units. map plain_unit units.items ≡ units_of domains.now names.now (flat_map instances (map clause_of clauses.now))) }
+    ensures { IfOk result (λ units. map plain_unit units.items ≡ units_of domains.now names.now
+        (flat_map instances (map clause_of clauses.now))) }
 {
     let origins = origins_of(alloc, clauses, count)?;
     let mut units = Vec::with_capacity(alloc, count)?;

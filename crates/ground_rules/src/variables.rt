@@ -18,7 +18,8 @@ fn has_word(words: &[&Word], word: &Word) -> bool
 
 // Adds a word unless it is there.
 fn add_word<'a>(word: &'a Word, into: &mut Vec<&'a Word>) -> Result<(), OutOfMemory>
-    ensures { IfOk result (λ _. map (λ other. other.now) into.new.items ≡ with_word (map (λ other. other.now) into.old.items) word.now) }
+    ensures { IfOk result (λ _. map (λ other. other.now) into.new.items
+        ≡ with_word (map (λ other. other.now) into.old.items) word.now) }
 {
     if !has_word(into.as_slice(), word) {
         into.push(word)?;
@@ -28,7 +29,8 @@ fn add_word<'a>(word: &'a Word, into: &mut Vec<&'a Word>) -> Result<(), OutOfMem
 
 // Adds a term where it is a variable.
 fn add_term<'a>(term: &'a Term, into: &mut Vec<&'a Word>) -> Result<(), OutOfMemory>
-    ensures { IfOk result (λ _. map (λ other. other.now) into.new.items ≡ fold with_word (map (λ other. other.now) into.old.items) (filter_map variable_in (term.now ∷ []))) }
+    ensures { IfOk result (λ _. map (λ other. other.now) into.new.items ≡ fold with_word
+        (map (λ other. other.now) into.old.items) (filter_map variable_in (term.now ∷ []))) }
 {
     match term {
         Term::Entity(_) => Ok(()),
@@ -38,7 +40,8 @@ fn add_term<'a>(term: &'a Term, into: &mut Vec<&'a Word>) -> Result<(), OutOfMem
 
 // Adds the variables of an atom.
 fn add_atom<'a>(atom: &'a Atom, into: &mut Vec<&'a Word>) -> Result<(), OutOfMemory>
-    ensures { IfOk result (λ _. map (λ other. other.now) into.new.items ≡ fold with_word (map (λ other. other.now) into.old.items) (filter_map variable_in atom.now.args)) }
+    ensures { IfOk result (λ _. map (λ other. other.now) into.new.items ≡ fold with_word
+        (map (λ other. other.now) into.old.items) (filter_map variable_in atom.now.args)) }
 {
     for term in atom.args.as_slice() {
         add_term(term, into)?;
@@ -48,7 +51,8 @@ fn add_atom<'a>(atom: &'a Atom, into: &mut Vec<&'a Word>) -> Result<(), OutOfMem
 
 // Adds the variables of a condition, those of `\=` too.
 fn add_condition<'a>(body: &'a Body, into: &mut Vec<&'a Word>) -> Result<(), OutOfMemory>
-    ensures { IfOk result (λ _. map (λ other. other.now) into.new.items ≡ fold with_word (map (λ other. other.now) into.old.items) (variables_in body.now)) }
+    ensures { IfOk result (λ _. map (λ other. other.now) into.new.items ≡ fold with_word
+        (map (λ other. other.now) into.old.items) (variables_in body.now)) }
 {
     match body {
         Body::Happens { event, .. } => add_atom(atom_of(event), into),
@@ -63,7 +67,8 @@ fn add_condition<'a>(body: &'a Body, into: &mut Vec<&'a Word>) -> Result<(), Out
 // Adds the variables of an expression.
 #[cycle(leaves)]
 fn add_leaves<'a>(tree: &'a Tree, into: &mut Vec<&'a Word>) -> Result<(), OutOfMemory>
-    ensures { IfOk result (λ _. map (λ other. other.now) into.new.items ≡ fold with_word (map (λ other. other.now) into.old.items) (variables (leaves (plain_tree tree.now)))) }
+    ensures { IfOk result (λ _. map (λ other. other.now) into.new.items ≡ fold with_word
+        (map (λ other. other.now) into.old.items) (variables (leaves (plain_tree tree.now)))) }
 {
     match tree {
         Tree::Leaf(fv) => add_atom(&fv.atom, into),
@@ -78,7 +83,9 @@ fn add_leaves<'a>(tree: &'a Tree, into: &mut Vec<&'a Word>) -> Result<(), OutOfM
 
 #[cycle(leaves)]
 fn add_all_leaves<'a>(trees: &'a [Tree], into: &mut Vec<&'a Word>) -> Result<(), OutOfMemory>
-    ensures { IfOk result (λ _. map (λ other. other.now) into.new.items ≡ fold with_word (map (λ other. other.now) into.old.items) (flat_map (λ tree. variables (leaves (plain_tree tree))) trees.now)) }
+    ensures { IfOk result (λ _. map (λ other. other.now) into.new.items ≡ fold with_word
+        (map (λ other. other.now) into.old.items)
+        (flat_map (λ tree. variables (leaves (plain_tree tree))) trees.now)) }
 {
     for tree in trees {
         add_leaves(tree, into)?;
@@ -88,7 +95,8 @@ fn add_all_leaves<'a>(trees: &'a [Tree], into: &mut Vec<&'a Word>) -> Result<(),
 
 // Adds the variables of the conditions.
 fn add_conditions<'a>(bodies: &'a [Body], into: &mut Vec<&'a Word>) -> Result<(), OutOfMemory>
-    ensures { IfOk result (λ _. map (λ other. other.now) into.new.items ≡ fold with_word (map (λ other. other.now) into.old.items) (flat_map variables_in bodies.now)) }
+    ensures { IfOk result (λ _. map (λ other. other.now) into.new.items ≡ fold with_word
+        (map (λ other. other.now) into.old.items) (flat_map variables_in bodies.now)) }
 {
     for body in bodies {
         add_condition(body, into)?;
@@ -102,7 +110,9 @@ fn add_rule<'a>(
     bodies: &'a [Body],
     into: &mut Vec<&'a Word>,
 ) -> Result<(), OutOfMemory>
-    ensures { IfOk result (λ _. map (λ other. other.now) into.new.items ≡ fold with_word (map (λ other. other.now) into.old.items) (filter_map variable_in head.now.args ++ flat_map variables_in bodies.now)) }
+    ensures { IfOk result (λ _. map (λ other. other.now) into.new.items ≡ fold with_word
+        (map (λ other. other.now) into.old.items) (filter_map variable_in head.now.args ++ flat_map
+        variables_in bodies.now)) }
 {
     add_atom(head, into)?;
     add_conditions(bodies, into)
@@ -110,7 +120,8 @@ fn add_rule<'a>(
 
 /// The variables of a statement, each once, in the order of their first occurrence in the text.
 pub(crate) fn variables_of<'a>(alloc: Global, form: &'a Form) -> Result<Vec<&'a Word>, OutOfMemory>
-    ensures { IfOk result (λ found. map (λ word. word.now) found.items ≡ variables_of (plain_form form.now)) }
+    ensures { IfOk result (λ found. map (λ word. word.now) found.items
+        ≡ variables_of (plain_form form.now)) }
 {
     let mut found = Vec::new(alloc);
     match form {

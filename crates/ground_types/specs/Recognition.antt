@@ -1,5 +1,6 @@
 -- *Static fluent and derived event* and *Recognition*: the table of one window, layer after layer.
-use Rattle.std.specs.Prelude.{ℕ, nat_lt, nat_le, Bool, false, ◌&&◌, ◌==◌, if◌then◌else◌, List, [], map, filter, fold, slice_get, option_and_then, Option, Some, None}
+use Rattle.std.specs.Prelude.{ℕ, nat_lt, nat_le, Bool, false, ◌&&◌, ◌==◌, if◌then◌else◌, List, []}
+use Rattle.std.specs.Prelude.{map, filter, fold, slice_get, option_and_then, Option, Some, None}
 use Rattle.std.specs.List.{list_any}
 use Rattle.ground_types.specs.Truth.{Table, body_holds, expr_holds}
 use Rattle.ground_types.specs.Members.{contains}
@@ -52,9 +53,12 @@ kind_of program unit = kind_or_idle (slice_get program.units unit)
 abbrev pub with_layer : Program → (ℕ → Option ℕ) → ℕ → Table → List ℕ → Table
 with_layer program opening w table layer = record {
   occurs = table.occurs;
-  derived = λ unit t. if contains layer unit then derived_of_unit table (kind_of program unit) t else table.derived unit t;
-  value = λ unit t. if contains layer unit then value_of_unit table (opening unit) (kind_of program unit) w t else table.value unit t;
-  static = λ unit v t. if contains layer unit then static_of_unit table (kind_of program unit) v t else table.static unit v t;
+  derived = λ unit t. if contains layer unit then derived_of_unit table (kind_of program unit) t
+      else table.derived unit t;
+  value = λ unit t. if contains layer unit then value_of_unit table (opening unit)
+      (kind_of program unit) w t else table.value unit t;
+  static = λ unit v t. if contains layer unit then static_of_unit table (kind_of program unit) v t
+      else table.static unit v t;
 }
 
 -- the table of input events alone
@@ -66,13 +70,17 @@ inputs_only occurs = record {
   static = λ unit v t. false;
 }
 
--- the table of all units, from where the input events occur and the value with which each unit opens after w
+-- the table of all units, from where the input events occur and the value with which each unit
+-- opens after w
 abbrev pub all_layers : Program → (ℕ → Option ℕ) → (ℕ → ℕ → Bool) → ℕ → Table
-all_layers program opening occurs w = fold (with_layer program opening w) (inputs_only occurs) program.layers
+all_layers program opening occurs w = fold (with_layer program opening w) (inputs_only occurs)
+    program.layers
 
--- *Recognition*: input events occur at the event points of the window (w, q] at which they are said to, and all else follows
+-- *Recognition*: input events occur at the event points of the window (w, q] at which they are said
+-- to, and all else follows
 abbrev pub recognition : Program → (ℕ → Option ℕ) → (ℕ → ℕ → Bool) → ℕ → ℕ → Table
-recognition program opening occurs w q = all_layers program opening (λ event t. nat_lt w t && nat_le t q && occurs event t) w
+recognition program opening occurs w q = all_layers program opening (λ event t. nat_lt w t
+    && nat_le t q && occurs event t) w
 
 -- a list of occurrences has an event at a point
 abbrev pub is_among : List Occ → ℕ → ℕ → Bool

@@ -1,11 +1,12 @@
--- *Rows*: the rising list of maximal runs of a fluent-value, and the rising list of points of a derived event. The span (a, b] is
--- the pair of a and b.
-use Rattle.std.specs.Prelude.{◌≡◌, ◌⊎◌, ℕ, zero, suc, ◌+◌, ◌-◌, ◌<◌, ◌≤◌, nat_lt, nat_le, Bool, true, false, ◌&&◌, ◌==◌, ◌↔◌, if◌then◌else◌, List, [], ◌∷◌, filter}
+-- *Rows*: the rising list of maximal runs of a fluent-value, and the rising list of points of a
+-- derived event. The span (a, b] is the pair of a and b.
+use Rattle.std.specs.Prelude.{◌≡◌, ◌⊎◌, ℕ, zero, suc, ◌+◌, ◌-◌, ◌<◌, ◌≤◌, nat_lt, nat_le, Bool}
+use Rattle.std.specs.Prelude.{true, false, ◌&&◌, ◌==◌, ◌↔◌, if◌then◌else◌, List, [], ◌∷◌, filter}
 use Rattle.std.specs.List.{list_any, range_with_len}
 use Rattle.ground_types.specs.Members.{contains}
 
--- A point after a goes to a rising list of spans that end at a or before it: it lengthens a last span that ends at a, or is a
--- span of its own.
+-- A point after a goes to a rising list of spans that end at a or before it: it lengthens a last
+-- span that ends at a, or is a span of its own.
 abbrev pub with_point : ℕ → List (ℕ × ℕ) → List (ℕ × ℕ)
 with_point a [] = (a, a + 1) ∷ []
 with_point a (s ∷ []) = if s.1 == a then (s.0, a + 1) ∷ [] else s ∷ (a, a + 1) ∷ []
@@ -16,11 +17,13 @@ abbrev pub runs : (ℕ → Bool) → ℕ → ℕ → List (ℕ × ℕ)
 runs test w zero = []
 runs test w (suc n) = if test (w + suc n) then with_point (w + n) (runs test w n) else runs test w n
 
--- the row of a fluent-value that holds where the test is true, over the value points of the window (w, q]
+-- the row of a fluent-value that holds where the test is true, over the value points of the window
+-- (w, q]
 abbrev pub row : (ℕ → Bool) → ℕ → ℕ → List (ℕ × ℕ)
 row test w q = runs test w (q + 1 - w)
 
--- the row of a derived event that occurs where the test is true: its event points in the window (w, q]
+-- the row of a derived event that occurs where the test is true: its event points in the window (w,
+-- q]
 abbrev pub points : (ℕ → Bool) → ℕ → ℕ → List ℕ
 points test w q = filter test (range_with_len (w + 1) (q - w))
 
@@ -31,7 +34,8 @@ pub record IsRun (test : ℕ → Bool) (w q a b : ℕ) : Type 0 where
   pub starts : (a ≡ w) ⊎ (test a ≡ false)
   pub ends : (b ≡ q + 1) ⊎ (test (b + 1) ≡ false)
 
--- each span has a point, the first begins at w or later, and each ends below the beginning of the next
+-- each span has a point, the first begins at w or later, and each ends below the beginning of the
+-- next
 abbrev pub IsRisingFrom : ℕ → List (ℕ × ℕ) → Type 0
 IsRisingFrom w [] = Unit {0}
 IsRisingFrom w (s ∷ rest) = (w ≤ s.0) × (s.0 < s.1) × IsRisingFrom (s.1 + 1) rest
@@ -60,7 +64,8 @@ abbrev pub ArePointsFrom : ℕ → List ℕ → Type 0
 ArePointsFrom floor [] = Unit {0}
 ArePointsFrom floor (p ∷ rest) = (floor ≤ p) × ArePointsFrom (p + 1) rest
 
--- the literal meaning of a derived event's row: the rising list of exactly the event points at which the test is true
+-- the literal meaning of a derived event's row: the rising list of exactly the event points at
+-- which the test is true
 pub record ArePoints (test : ℕ → Bool) (w q : ℕ) (list : List ℕ) : Type 0 where
   pub rising : ArePointsFrom (w + 1) list
   pub each : (t : ℕ) → contains list t ≡ (nat_lt w t && nat_le t q && test t)

@@ -1,5 +1,7 @@
--- *Touched points*, and the count of evaluations: at which points a body has to be looked at for a query.
-use Rattle.std.specs.Prelude.{ℕ, zero, suc, nat_lt, Bool, true, false, not, ◌&&◌, ◌||◌, List, [], ◌++◌, length, sum_by}
+-- *Touched points*, and the count of evaluations: at which points a body has to be looked at for a
+-- query.
+use Rattle.std.specs.Prelude.{ℕ, zero, suc, nat_lt, Bool, true, false, not, ◌&&◌, ◌||◌, List, []}
+use Rattle.std.specs.Prelude.{◌++◌, length, sum_by}
 use Rattle.std.specs.List.{list_any}
 use Rattle.ground_types.specs.Windows.{left, right}
 use Rattle.ground_types.specs.Truth.{Table, happens, condition_holds}
@@ -20,20 +22,23 @@ differs false b = b
 abbrev pub is_changed : Table → Table → Rule → ℕ → Bool
 is_changed old new rule t =
     differs (happens old rule.trigger t) (happens new rule.trigger t)
-    || list_any (λ cond. differs (condition_holds old cond t) (condition_holds new cond t)) rule.conds
+    || list_any (λ cond. differs (condition_holds old cond t) (condition_holds new cond t))
+    rule.conds
 
--- the query before does not settle the body at this point: there is none, its window ends before the point, or the trigger or a
--- condition has another truth there
+-- the query before does not settle the body at this point: there is none, its window ends before
+-- the point, or the trigger or a condition has another truth there
 abbrev pub is_unsettled : Program → List Entry → ℕ → Rule → ℕ → Bool
 is_unsettled program history zero rule t = true
 is_unsettled program history (suc k) rule t =
     nat_lt (right program.plan k) t
     || is_changed (query_table program history k) (query_table program history (suc k)) rule t
 
--- *Touched points* of a rule in query k: its trigger occurs, and the query before does not settle its body
+-- *Touched points* of a rule in query k: its trigger occurs, and the query before does not settle
+-- its body
 abbrev pub touched : Program → List Entry → ℕ → Rule → List ℕ
 touched program history k rule =
-    points (λ t. happens (query_table program history k) rule.trigger t && is_unsettled program history k rule t)
+    points (λ t. happens (query_table program history k) rule.trigger t && is_unsettled program
+    history k rule t)
     (left program.plan k) (right program.plan k)
 
 -- the rules of a unit, in the order of its lists

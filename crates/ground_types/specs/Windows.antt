@@ -14,12 +14,13 @@ right plan k = left plan k + plan.window
 abbrev pub IsEventPoint : Plan → ℕ → ℕ → Type 0
 IsEventPoint plan k t = (left plan k < t) × (t ≤ right plan k)
 
--- the points of query k at which fluents have a value: one more, since what happens at t shows at t + 1
+-- the points of query k at which fluents have a value: one more, since what happens at t shows at t
+-- + 1
 abbrev pub IsValuePoint : Plan → ℕ → ℕ → Type 0
 IsValuePoint plan k t = (left plan k < t) × (t ≤ right plan k + 1)
 
--- Windows overlap or touch; a window is at most 1,000,000,000,000 long, there are at most 1,024 queries, and the left border
--- after the last query is at most 5,024,000,000,000,000.
+-- Windows overlap or touch; a window is at most 1,000,000,000,000 long, there are at most 1,024
+-- queries, and the left border after the last query is at most 5,024,000,000,000,000.
 pub record IsSoundPlan (plan : Plan) : Type 0 where
   pub step_some : 1 ≤ plan.step
   pub step_most : plan.step ≤ plan.window

@@ -1,7 +1,8 @@
-//! A ground program, a history and the definitions of their meaning, which every contract above cites.
-//! Its promise is in `specs/`: what is recognised in a window, point by point; what a history of adds, revokes and
-//! seals stands for; and what is published at each seal. It has the program as plain data, the two borders of a
-//! window, and the laws that say the definitions again in literal terms. It stands on `rt_base`.
+//! A ground program, a history and the definitions of their meaning, which every contract above
+//! cites. Its promise is in `specs/`: what is recognised in a window, point by point; what a
+//! history of adds, revokes and seals stands for; and what is published at each seal. It has the
+//! program as plain data, the two borders of a window, and the laws that say the definitions again
+//! in literal terms. It stands on `rt_base`.
 #![tactic(auto)]
 
 mod entries;

@@ -4,8 +4,8 @@ ghost use Rattle.ground_types.specs.Windows.{left, right, IsSoundPlan};
 
 use crate::Point;
 
-/// The windows of a run. Query `k`, from 0 on and below `queries`, has the event points after `from + k * step` and
-/// up to `from + k * step + window`, in whole points of time.
+/// The windows of a run. Query `k`, from 0 on and below `queries`, has the event points after `from
+/// + k * step` and up to `from + k * step + window`, in whole points of time.
 #[derive(Clone, Copy, Debug, PartialEq, Eq)]
 pub struct Plan {
     /// How many event points a window has.

@@ -29,8 +29,8 @@ pub struct Cond {
     pub what: What,
 }
 
-/// An instance of a rule: the value that it initiates or terminates (0 for a derived event), its first condition,
-/// and its further conditions.
+/// An instance of a rule: the value that it initiates or terminates (0 for a derived event), its
+/// first condition, and its further conditions.
 #[derive(Debug, Drop)]
 pub struct Rule {
     pub value: Value,
@@ -54,15 +54,15 @@ pub enum Expr {
 /// What a unit is and the instances that define it.
 #[derive(Debug, Drop)]
 pub enum UnitKind {
-    /// A simple fluent: its value at the first value point of query 0, and the rules that initiate and terminate its
-    /// values.
+    /// A simple fluent: its value at the first value point of query 0, and the rules that initiate
+    /// and terminate its values.
     Simple {
         initially: Option<Value>,
         initiate: List<Rule>,
         terminate: List<Rule>,
     },
-    /// A statically determined fluent: for each value the union of its instances' expressions, of no member where
-    /// there is none.
+    /// A statically determined fluent: for each value the union of its instances' expressions, of
+    /// no member where there is none.
     Static(List<Expr>),
     /// A derived event.
     Derived(List<Rule>),
@@ -116,7 +116,8 @@ pub struct Program {
     pub domains: List<Domain>,
     pub names: List<Name>,
     pub units: List<Unit>,
-    /// The units of layer 1, of layer 2 and so on: a unit's rules name units of earlier layers only.
+    /// The units of layer 1, of layer 2 and so on: a unit's rules name units of earlier layers
+    /// only.
     pub layers: List<List<UnitId>>,
     /// How many ground input events there are.
     pub events: u32,

@@ -1,5 +1,6 @@
 -- The rows of the units of a program.
-use Rattle.std.specs.Prelude.{ℕ, ◌^◌, nat_lt, List, [], map, replicate, slice_get, position, if◌then◌else◌, Option, Some, None}
+use Rattle.std.specs.Prelude.{ℕ, ◌^◌, nat_lt, List, [], map, replicate, slice_get, position}
+use Rattle.std.specs.Prelude.{if◌then◌else◌, Option, Some, None}
 use Rattle.span_algebra.specs.Normal.{covers}
 use Rattle.ground_types.specs.Publication.{value_count}
 use Rattle.ground_types.specs.declared.program.Unit.{Unit}

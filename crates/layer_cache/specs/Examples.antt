@@ -11,7 +11,8 @@ alarm_empty = refl
 
 -- a fluent of two values, of which the first holds in (3, 7] and the second in (6, 11]
 abbrev gear : UnitRows
-gear = Fluent ((record { after = 3; until = 7 } ∷ []) ∷ (record { after = 6; until = 11 } ∷ []) ∷ [])
+gear = Fluent ((record { after = 3; until = 7 } ∷ []) ∷ (record { after = 6; until = 11 } ∷ [])
+    ∷ [])
 
 first_of_two : first_value_at (Some gear) 7 ≡ Some 0
 first_of_two = refl

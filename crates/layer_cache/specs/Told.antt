@@ -25,8 +25,9 @@ abbrev pub fluent_has : Option UnitRows → ℕ → ℕ → Bool
 fluent_has (Some (Fluent rows)) v t = value_covers (slice_get rows v) t
 fluent_has rows v t = false
 
--- The table that rows are: no input event occurs in it, derived events and fluents are told by their rows. A fluent's rows say of
--- each of its values where it holds, so no value is told as that of a simple fluent.
+-- The table that rows are: no input event occurs in it, derived events and fluents are told by
+-- their rows. A fluent's rows say of each of its values where it holds, so no value is told as that
+-- of a simple fluent.
 abbrev pub told : List UnitRows → Table
 told rows = record {
   occurs = λ event t. false;

@@ -1,5 +1,6 @@
 // The cache.
-ghost use Rattle.std.specs.Prelude.{◌≡◌, ◌<◌, ℕ, false, [], Some, None, replicate, length, slice_get, slice_set, position, IfOk, IfSome, IfNone};
+ghost use Rattle.std.specs.Prelude.{◌≡◌, ◌<◌, ℕ, false, [], Some, None, replicate, length};
+ghost use Rattle.std.specs.Prelude.{slice_get, slice_set, position, IfOk, IfSome, IfNone};
 ghost use Rattle.ground_types.specs.Sound.{unit_values};
 ghost use Rattle.layer_cache.specs.Cached.{empty_rows, all_empty, small_value, first_value_at};
 ghost use Rattle.layer_cache.specs.Told.{fluent_has, fluent_row};
@@ -12,8 +13,8 @@ use std::alloc::Global;
 use std::marker::Model;
 use std::mem;
 
-/// The rows of each unit of a program, as they are now and as they were before. Contracts see the two lists, in the order of
-/// the units.
+/// The rows of each unit of a program, as they are now and as they were before. Contracts see the
+/// two lists, in the order of the units.
 #[derive(Drop)]
 pub struct Cache {
     rows: Vec<UnitRows>,
@@ -38,11 +39,13 @@ pub fn value_count(program: &Program, unit: &Unit) -> usize
     }
 }
 
-/// The row of a fluent's value; None for a value without a row, and for a derived event. It takes no memory.
+/// The row of a fluent's value; None for a value without a row, and for a derived event. It takes
+/// no memory.
 pub fn value_row(rows: &UnitRows, value: Value) -> Option<&Spans>
     ensures row { IfSome result (λ row. fluent_row rows.now value ≡ Some row.now) }
     ensures no_row { IfNone result (fluent_row rows.now value ≡ None) }
-    ensures some { IfSome result (λ row. (t : ℕ) → fluent_has (Some rows.now) value t ≡ covers row.now t) }
+    ensures some { IfSome result (λ row. (t : ℕ) → fluent_has (Some rows.now) value t
+        ≡ covers row.now t) }
     ensures none { IfNone result ((t : ℕ) → fluent_has (Some rows.now) value t ≡ false) }
 {
     match rows {
@@ -107,14 +110,19 @@ fn small_value(value: Option<usize>) -> Option<Value>
 impl Cache {
     /// The empty rows of all units of a program, old and new.
     pub fn new(alloc: Global, program: &Program) -> Result<Cache, OutOfMemory>
-        ensures { IfOk result (λ cache. cache ≡ record { rows = all_empty program.now; before = all_empty program.now }) }
+        ensures { IfOk result (λ cache. cache ≡ record {
+          rows = all_empty program.now;
+          before =
+              all_empty program.now;
+        }) }
     {
         let rows = all_empty(alloc, program)?;
         let before = all_empty(alloc, program)?;
         Ok(Cache { rows, before })
     }
 
-    /// The rows of a unit as they are now. The unit has to be one of the program. It takes no memory.
+    /// The rows of a unit as they are now. The unit has to be one of the program. It takes no
+    /// memory.
     pub fn row(&self, unit: UnitId) -> &UnitRows
         requires { unit < length self.now.rows }
         ensures { slice_get self.now.rows unit ≡ Some result.now }
@@ -122,7 +130,8 @@ impl Cache {
         &self.rows[unit as usize]
     }
 
-    /// The rows of a unit as they were before the last turn. The unit has to be one of the program. It takes no memory.
+    /// The rows of a unit as they were before the last turn. The unit has to be one of the program.
+    /// It takes no memory.
     pub fn old_row(&self, unit: UnitId) -> &UnitRows
         requires { unit < length self.now.before }
         ensures { slice_get self.now.before unit ≡ Some result.now }
@@ -130,10 +139,15 @@ impl Cache {
         &self.before[unit as usize]
     }
 
-    /// Puts the rows of a unit, which has to be one of the program, in place of those that it has now. It takes no memory.
+    /// Puts the rows of a unit, which has to be one of the program, in place of those that it has
+    /// now. It takes no memory.
     pub fn put_row(&mut self, unit: UnitId, put: UnitRows)
         requires { unit < length self.old.rows }
-        ensures { self.new ≡ record { rows = slice_set self.old.rows unit put; before = self.old.before } }
+        ensures { self.new ≡ record {
+          rows = slice_set self.old.rows unit put;
+          before =
+              self.old.before;
+        } }
     {
         self.rows[unit as usize] = put;
     }
@@ -145,8 +159,9 @@ impl Cache {
         mem::swap(&mut self.rows, &mut self.before);
     }
 
-    /// The first value of a fluent whose old row has the point; None where there is none, and for a derived event. The unit
-    /// has to be one of the program. A search by halves for each value; it takes no memory.
+    /// The first value of a fluent whose old row has the point; None where there is none, and for a
+    /// derived event. The unit has to be one of the program. A search by halves for each value; it
+    /// takes no memory.
     pub fn opening(&self, unit: UnitId, at: Point) -> Option<Value>
         requires { unit < length self.now.before }
         ensures { result ≡ first_value_at (slice_get self.now.before unit) at }

@@ -1,5 +1,5 @@
-// What no clause says: that a cache is made with ample memory, what a unit has as it was put, and the values with which windows
-// open.
+// What no clause says: that a cache is made with ample memory, what a unit has as it was put, and
+// the values with which windows open.
 ghost use Rattle.std.specs.Prelude.{◌≡◌, length, IfOk};
 
 use crate::Cache;
@@ -120,8 +120,8 @@ fn a_turn_gives_the_rows_before(rt: HostRuntime) -> Result<(), Fail> {
     Ok(())
 }
 
-// A window opens with the value that held in the rows before, the first of two; not with one of the rows as they are now, and
-// a derived event has none.
+// A window opens with the value that held in the rows before, the first of two; not with one of the
+// rows as they are now, and a derived event has none.
 #[test]
 fn a_window_opens_with_the_first_value_before(rt: HostRuntime) -> Result<(), Fail> {
     let alloc = rt.alloc();

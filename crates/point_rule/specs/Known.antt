@@ -24,7 +24,8 @@ with_events rows occurs = record {
 abbrev pub known : List UnitRows → Events → Table
 known rows events = with_events rows (λ event t. has (standing events event) t)
 
--- what was known of the query before: the old rows, and input events where they stood when the store was settled last
+-- what was known of the query before: the old rows, and input events where they stood when the
+-- store was settled last
 abbrev pub known_before : Cached → Events → Table
 known_before cached events = with_events cached.before (stood events)
 
@@ -32,8 +33,9 @@ known_before cached events = with_events cached.before (stood events)
 abbrev pub HasRows : List UnitRows → Rule → Type 0
 HasRows rows rule = list_all (λ unit. nat_lt unit (length rows)) (units_of_rule rule) ≡ true
 
--- the query before, which ended at this point if there was one, does not settle the body of a rule at a point: there is none, the
--- point is past its window, or the trigger or a condition had another truth there
+-- the query before, which ended at this point if there was one, does not settle the body of a rule
+-- at a point: there is none, the point is past its window, or the trigger or a condition had
+-- another truth there
 abbrev pub is_open : Option ℕ → Cached → Events → Rule → ℕ → Bool
 is_open None cached events rule t = true
 is_open (Some before) cached events rule t =

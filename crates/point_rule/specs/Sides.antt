@@ -1,4 +1,5 @@
--- The two queries of which a rule's conditions are read: the one that is computed, and the one before.
+-- The two queries of which a rule's conditions are read: the one that is computed, and the one
+-- before.
 use Rattle.std.specs.Prelude.{ℕ, Bool, List}
 use Rattle.ground_types.specs.Truth.{Table}
 use Rattle.span_algebra.specs.Normal.{has}
@@ -19,6 +20,7 @@ abbrev pub occurs_on : Side → Events → ℕ → ℕ → Bool
 occurs_on Now events event t = has (standing events event) t
 occurs_on Before events event t = stood events event t
 
--- what is known on a side: of the one what is known now, of the other what was known of the query before
+-- what is known on a side: of the one what is known now, of the other what was known of the query
+-- before
 abbrev pub known_on : Side → Cached → Events → Table
 known_on side cached events = with_events (rows_on side cached) (occurs_on side events)

@@ -1,5 +1,6 @@
 // The truth of a body at a point.
-ghost use Rattle.std.specs.Prelude.{◌≡◌, ◌<◌, ◌+◌, ◌-◌, ◌^◌, nat_lt, ℕ, true, false, length, slice_get, IfSome, IfNone};
+ghost use Rattle.std.specs.Prelude.{◌≡◌, ◌<◌, ◌+◌, ◌-◌, ◌^◌, nat_lt, ℕ, true, false, length};
+ghost use Rattle.std.specs.Prelude.{slice_get, IfSome, IfNone};
 ghost use Rattle.std.specs.List.{list_all};
 ghost use Rattle.ground_types.specs.Truth.{happens, condition_holds, body_holds};
 ghost use Rattle.ground_types.specs.Meaning.{units_of_trigger, units_of_what};
@@ -30,8 +31,10 @@ fn occurs(side: Side, cache: &Cache, unit: UnitId, at: Point) -> bool
 // The row of a fluent's value; None where there is none.
 pub(crate) fn row_of(side: Side, cache: &Cache, unit: UnitId, value: Value) -> Option<&Spans>
     requires { unit < length (rows_on side cache.now) }
-    ensures some { IfSome result (λ row. (t : ℕ) → fluent_has (slice_get (rows_on side cache.now) unit) value t ≡ covers row.now t) }
-    ensures none { IfNone result ((t : ℕ) → fluent_has (slice_get (rows_on side cache.now) unit) value t ≡ false) }
+    ensures some { IfSome result (λ row. (t : ℕ)
+        → fluent_has (slice_get (rows_on side cache.now) unit) value t ≡ covers row.now t) }
+    ensures none { IfNone result ((t : ℕ) → fluent_has (slice_get (rows_on side cache.now) unit)
+        value t ≡ false) }
 {
     value_row(side.rows(cache, unit), value)
 }
@@ -54,7 +57,8 @@ pub(crate) fn happens(
     trigger: Trigger,
     at: Point,
 ) -> bool
-    requires units { list_all (λ unit. nat_lt unit (length (rows_on side cache.now))) (units_of_trigger trigger) ≡ true }
+    requires units { list_all (λ unit. nat_lt unit (length (rows_on side cache.now)))
+        (units_of_trigger trigger) ≡ true }
     requires end { at < 2 ^ 64 - 1 }
     ensures { result ≡ happens (known_on side cache.now store.now) trigger at }
 {
@@ -77,7 +81,8 @@ pub(crate) fn condition_holds(
     cond: &Cond,
     at: Point,
 ) -> bool
-    requires units { list_all (λ unit. nat_lt unit (length (rows_on side cache.now))) (units_of_what cond.now.what) ≡ true }
+    requires units { list_all (λ unit. nat_lt unit (length (rows_on side cache.now)))
+        (units_of_what cond.now.what) ≡ true }
     requires end { at < 2 ^ 64 - 1 }
     ensures { result ≡ condition_holds (known_on side cache.now store.now) cond.now at }
 {
@@ -89,9 +94,11 @@ pub(crate) fn condition_holds(
 }
 
 fn conditions_hold(cache: &Cache, store: &EventStore, conds: &[Cond], at: Point) -> bool
-    requires units { list_all (λ cond. list_all (λ unit. nat_lt unit (length cache.now.rows)) (units_of_what cond.what)) conds.now ≡ true }
+    requires units { list_all (λ cond. list_all (λ unit. nat_lt unit (length cache.now.rows))
+        (units_of_what cond.what)) conds.now ≡ true }
     requires end { at < 2 ^ 64 - 1 }
-    ensures { result ≡ list_all (λ cond. condition_holds (known cache.now.rows store.now) cond at) conds.now }
+    ensures { result ≡ list_all (λ cond. condition_holds (known cache.now.rows store.now) cond at)
+        conds.now }
 {
     for cond in conds {
         if !condition_holds(Side::Now, cache, store, cond, at) {
@@ -101,9 +108,9 @@ fn conditions_hold(cache: &Cache, store: &EventStore, conds: &[Cond], at: Point)
     true
 }
 
-/// The truth of a rule's body at an event point: its first condition and all the others, over the rows of the cache and the
-/// events of the store. The units that the rule names have to have rows in the cache. A search by halves for each condition;
-/// it takes no memory, and adds one step.
+/// The truth of a rule's body at an event point: its first condition and all the others, over the
+/// rows of the cache and the events of the store. The units that the rule names have to have rows
+/// in the cache. A search by halves for each condition; it takes no memory, and adds one step.
 pub fn eval_at<L: Ledger>(
     rule: &Rule,
     cache: &Cache,

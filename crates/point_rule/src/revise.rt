@@ -1,5 +1,6 @@
 // The points of a window at which a body is true.
-ghost use Rattle.std.specs.Prelude.{◌≡◌, ◌≤◌, ◌<◌, ◌+◌, ◌-◌, ◌^◌, [], length, filter, None, All, IfOk, OnOk, OnErr};
+ghost use Rattle.std.specs.Prelude.{◌≡◌, ◌≤◌, ◌<◌, ◌+◌, ◌-◌, ◌^◌, [], length, filter, None, All};
+ghost use Rattle.std.specs.Prelude.{IfOk, OnOk, OnErr};
 ghost use Rattle.ground_types.specs.Truth.{happens, body_holds};
 ghost use Rattle.ground_types.specs.Rows.{points};
 ghost use Rattle.span_algebra.specs.Normal.{IsRising};
@@ -27,8 +28,12 @@ fn true_among<L: Ledger>(
     requires rising { IsRising at.now }
     requires rows { HasRows cache.now.rows rule.now }
     requires end { All (λ point. point < 2 ^ 64 - 1) at.now }
-    ensures found { IfOk result (λ found. found ≡ filter (body_holds (known cache.now.rows store.now) rule.now) at.now) }
-    ensures steps { OnOk result (steps.new ≡ record { count = steps.old.count + length at.now; out = steps.old.out }) }
+    ensures found { IfOk result (λ found. found
+        ≡ filter (body_holds (known cache.now.rows store.now) rule.now) at.now) }
+    ensures steps { OnOk result (steps.new ≡ record {
+      count = steps.old.count + length at.now;
+      out = steps.old.out;
+    }) }
     ensures most { OnErr result (steps.new.count ≤ steps.old.count + length at.now) }
     ensures parts { steps.new.out ≡ steps.old.out }
 {
@@ -41,10 +46,10 @@ fn true_among<L: Ledger>(
     Ok(Points::of(alloc, found))
 }
 
-/// The points of the window `(w, q]` at which a rule's body is true, in order. It looks at the body at each touched point,
-/// and at no other; so far there is no query before (`before` is None, `old` is empty). The units that the rule names have to
-/// have rows in the cache, and `q` is below the greatest number. Ok adds a step for each touched point, a refusal at most as
-/// many.
+/// The points of the window `(w, q]` at which a rule's body is true, in order. It looks at the body
+/// at each touched point, and at no other; so far there is no query before (`before` is None, `old`
+/// is empty). The units that the rule names have to have rows in the cache, and `q` is below the
+/// greatest number. Ok adds a step for each touched point, a refusal at most as many.
 pub fn revise_rule<L: Ledger>(
     alloc: Global,
     rule: &Rule,
@@ -60,12 +65,15 @@ pub fn revise_rule<L: Ledger>(
     requires old { _old.now ≡ [] }
     requires rows { HasRows cache.now.rows rule.now }
     requires end { q < 2 ^ 64 - 1 }
-    ensures found { IfOk result (λ found. found ≡ points (body_holds (known cache.now.rows store.now) rule.now) w q) }
+    ensures found { IfOk result (λ found. found
+        ≡ points (body_holds (known cache.now.rows store.now) rule.now) w q) }
     ensures steps { OnOk result (steps.new ≡ record {
-      count = steps.old.count + length (points (happens (known cache.now.rows store.now) rule.now.trigger) w q);
+      count = steps.old.count + length (points (happens (known cache.now.rows store.now)
+          rule.now.trigger) w q);
       out = steps.old.out;
     }) }
-    ensures most { OnErr result (steps.new.count ≤ steps.old.count + length (points (happens (known cache.now.rows store.now) rule.now.trigger) w q)) }
+    ensures most { OnErr result (steps.new.count ≤ steps.old.count + length
+        (points (happens (known cache.now.rows store.now) rule.now.trigger) w q)) }
     ensures parts { steps.new.out ≡ steps.old.out }
 {
     let at = triggered(alloc, rule, cache, store, w, q)?;

@@ -1,4 +1,5 @@
-// What no clause says: that calls succeed with ample memory, and the points of worked rows and events.
+// What no clause says: that calls succeed with ample memory, and the points of worked rows and
+// events.
 ghost use Rattle.std.specs.Prelude.{◌≡◌, ◌<◌, ◌-◌, ◌^◌, [], ◌∷◌, nat_lt, true, length, IfOk};
 ghost use Rattle.std.specs.List.{list_all};
 ghost use Rattle.ground_types.specs.Meaning.{units_of_trigger, units_of_rule};
@@ -126,7 +127,8 @@ fn heated(alloc: Global) -> Result<Cache, Fail>
     Ok(cache)
 }
 
-// The touched points of a rule over (5, 15]: the first event stood at 8 for the query before, and the second stands at 6 too.
+// The touched points of a rule over (5, 15]: the first event stood at 8 for the query before, and
+// the second stands at 6 too.
 fn touched_after(alloc: Global, rule: &Rule, before: Option<Point>) -> Result<Points, Fail>
     requires { list_all (λ unit. nat_lt unit 2) (units_of_rule rule.now) ≡ true }
 {
@@ -268,8 +270,8 @@ fn a_rule_has_the_points_at_which_it_is_true(rt: HostRuntime) -> Result<(), Fail
     Ok(())
 }
 
-// A late event touches the rule that it triggers, and the rule of which it turns a condition. Where nothing changed a rule is
-// looked at past the query before alone.
+// A late event touches the rule that it triggers, and the rule of which it turns a condition. Where
+// nothing changed a rule is looked at past the query before alone.
 #[test]
 fn a_late_event_touches_what_it_changes(rt: HostRuntime) -> Result<(), Fail> {
     let alloc = rt.alloc();

@@ -1,5 +1,6 @@
 // The points at which a body has to be looked at.
-ghost use Rattle.std.specs.Prelude.{◌≡◌, ◌<◌, ◌-◌, ◌^◌, ◌&&◌, nat_lt, true, length, filter, Some, All, IfOk};
+ghost use Rattle.std.specs.Prelude.{◌≡◌, ◌<◌, ◌-◌, ◌^◌, ◌&&◌, nat_lt, true, length, filter, Some};
+ghost use Rattle.std.specs.Prelude.{All, IfOk};
 ghost use Rattle.std.specs.List.{list_all, list_any};
 ghost use Rattle.ground_types.specs.Meaning.{units_of_what};
 ghost use Rattle.ground_types.specs.Truth.{happens, condition_holds};
@@ -26,8 +27,8 @@ fn inside(alloc: Global, list: &Points, w: Point, q: Point) -> Result<Points, Ou
     Ok(Points::of(alloc, found))
 }
 
-// The points of the window at which a rule's trigger occurs. Two searches by halves and a copy, or one pass over a fluent's
-// spans.
+// The points of the window at which a rule's trigger occurs. Two searches by halves and a copy, or
+// one pass over a fluent's spans.
 pub(crate) fn triggered(
     alloc: Global,
     rule: &Rule,
@@ -37,7 +38,8 @@ pub(crate) fn triggered(
     q: Point,
 ) -> Result<Points, OutOfMemory>
     requires rows { HasRows cache.now.rows rule.now }
-    ensures { IfOk result (λ found. found ≡ points (happens (known cache.now.rows store.now) rule.now.trigger) w q) }
+    ensures { IfOk result (λ found. found ≡ points (happens (known cache.now.rows store.now)
+        rule.now.trigger) w q) }
 {
     match rule.trigger {
         Trigger::Event(event) => inside(alloc, store.points(event), w, q),
@@ -58,10 +60,13 @@ pub(crate) fn triggered(
 
 // Whether one of some conditions had another truth at a point in the query before.
 fn conditions_differ(cache: &Cache, store: &EventStore, conds: &[Cond], at: Point) -> bool
-    requires units { list_all (λ cond. list_all (λ unit. nat_lt unit (length cache.now.rows)) (units_of_what cond.what)) conds.now ≡ true }
-    requires old_units { list_all (λ cond. list_all (λ unit. nat_lt unit (length cache.now.before)) (units_of_what cond.what)) conds.now ≡ true }
+    requires units { list_all (λ cond. list_all (λ unit. nat_lt unit (length cache.now.rows))
+        (units_of_what cond.what)) conds.now ≡ true }
+    requires old_units { list_all (λ cond. list_all (λ unit. nat_lt unit (length cache.now.before))
+        (units_of_what cond.what)) conds.now ≡ true }
     requires end { at < 2 ^ 64 - 1 }
-    ensures { result ≡ list_any (λ cond. differs (condition_holds (known_before cache.now store.now) cond at)
+    ensures { result ≡ list_any (λ cond.
+        differs (condition_holds (known_before cache.now store.now) cond at)
         (condition_holds (known cache.now.rows store.now) cond at)) conds.now }
 {
     for cond in conds {
@@ -73,12 +78,14 @@ fn conditions_differ(cache: &Cache, store: &EventStore, conds: &[Cond], at: Poin
     false
 }
 
-// Whether the trigger of a rule or one of its conditions had another truth at a point in the query before.
+// Whether the trigger of a rule or one of its conditions had another truth at a point in the query
+// before.
 fn is_changed(rule: &Rule, cache: &Cache, store: &EventStore, at: Point) -> bool
     requires rows { HasRows cache.now.rows rule.now }
     requires old_rows { HasRows cache.now.before rule.now }
     requires end { at < 2 ^ 64 - 1 }
-    ensures { result ≡ is_changed (known_before cache.now store.now) (known cache.now.rows store.now) rule.now at }
+    ensures { result ≡ is_changed (known_before cache.now store.now)
+        (known cache.now.rows store.now) rule.now at }
 {
     let before = happens(Side::Before, cache, store, rule.trigger, at);
     before != happens(Side::Now, cache, store, rule.trigger, at)
@@ -98,7 +105,8 @@ fn open_among(
     requires rows { HasRows cache.now.rows rule.now }
     requires old_rows { HasRows cache.now.before rule.now }
     requires end { All (λ point. point < 2 ^ 64 - 1) at.now }
-    ensures { IfOk result (λ found. found ≡ filter (is_open (Some before) cache.now store.now rule.now) at.now) }
+    ensures { IfOk result (λ found. found ≡ filter (is_open (Some before) cache.now store.now
+        rule.now) at.now) }
 {
     let mut found = Vec::new(alloc);
     for point in at {
@@ -109,12 +117,14 @@ fn open_among(
     Ok(Points::of(alloc, found))
 }
 
-/// The points of the window `(w, q]` at which a rule's body has to be looked at, in order: its trigger occurs there, and the
-/// query before does not settle the body, since there is none, or the point is past its right border (`before`), or the trigger
-/// or a condition had another truth there. The units that the rule names have to have rows in the cache, old ones too, and `q` is
-/// below the greatest number. Two searches by halves and a copy, or one pass over a fluent's spans, and for each point up to
-/// `before` some searches by halves for each condition. The one error is want of memory. After the Run-Time Event Calculus, which
-/// looks at rules where something happened; the touched points are our own.
+/// The points of the window `(w, q]` at which a rule's body has to be looked at, in order: its
+/// trigger occurs there, and the query before does not settle the body, since there is none, or the
+/// point is past its right border (`before`), or the trigger or a condition had another truth
+/// there. The units that the rule names have to have rows in the cache, old ones too, and `q` is
+/// below the greatest number. Two searches by halves and a copy, or one pass over a fluent's spans,
+/// and for each point up to `before` some searches by halves for each condition. The one error is
+/// want of memory. After the Run-Time Event Calculus, which looks at rules where something
+/// happened; the touched points are our own.
 pub fn touched(
     alloc: Global,
     rule: &Rule,
@@ -128,7 +138,8 @@ pub fn touched(
     requires old_rows { HasRows cache.now.before rule.now }
     requires end { q < 2 ^ 64 - 1 }
     ensures { IfOk result (λ found. found ≡
-        points (λ t. happens (known cache.now.rows store.now) rule.now.trigger t && is_open before cache.now store.now rule.now t) w q) }
+        points (λ t. happens (known cache.now.rows store.now) rule.now.trigger t && is_open before
+        cache.now store.now rule.now t) w q) }
 {
     let found = triggered(alloc, rule, cache, store, w, q)?;
     match before {

@@ -13,7 +13,8 @@ letter_low : (b : ℕ) → is_letter b ≡ true → b < 128
 letter_low b h = grind (arith, nat_tests)
 
 all_low : (bs : List ℕ) → list_all is_letter bs ≡ true → All (λ b. b < 128) bs
-all_low bs h = All-weaker (λ b. is_letter b ≡ true) (λ b. b < 128) letter_low bs (AllPass-from_list_all is_letter bs h)
+all_low bs h = All-weaker (λ b. is_letter b ≡ true) (λ b. b < 128) letter_low bs
+    (AllPass-from_list_all is_letter bs h)
 
 pub letters_are_text : (bs : List ℕ) → list_all is_letter bs ≡ true → IsUtf8 bs
 letters_are_text bs h = IsUtf8-from_ascii bs (IsAscii-from_all bs (all_low bs h))

@@ -1,5 +1,7 @@
--- The kinds of words of a description: at most 64 letters, digits and underscores, told apart by the first.
-use Rattle.std.specs.Prelude.{ℕ, Bool, false, not, ◌&&◌, ◌||◌, ◌==◌, nat_le, List, [], ◌∷◌, length, codes}
+-- The kinds of words of a description: at most 64 letters, digits and underscores, told apart by
+-- the first.
+use Rattle.std.specs.Prelude.{ℕ, Bool, false, not, ◌&&◌, ◌||◌, ◌==◌, nat_le, List, [], ◌∷◌, length}
+use Rattle.std.specs.Prelude.{codes}
 use Rattle.std.specs.Char.{is_ascii_lowercase, is_ascii_uppercase, is_ascii_digit}
 use Rattle.std.specs.List.{list_any, list_all}
 use Rattle.std.specs.Str.{bytes_eq}
@@ -11,10 +13,14 @@ is_letter b = is_ascii_lowercase b || is_ascii_uppercase b || is_ascii_digit b |
 -- the words that may name nothing
 abbrev pub reserved : List (List ℕ)
 reserved =
-    codes "window" ∷ codes "step" ∷ codes "from" ∷ codes "queries" ∷ codes "domain" ∷ codes "input" ∷ codes "simple"
-    ∷ codes "static" ∷ codes "derived" ∷ codes "initially" ∷ codes "initiatedAt" ∷ codes "terminatedAt"
-    ∷ codes "happensAt" ∷ codes "holdsAt" ∷ codes "holdsFor" ∷ codes "start" ∷ codes "end" ∷ codes "not"
-    ∷ codes "union_all" ∷ codes "intersect_all" ∷ codes "relative_complement_all" ∷ codes "expires" ∷ []
+    codes "window" ∷ codes "step" ∷ codes "from" ∷ codes "queries" ∷ codes "domain" ∷ codes "input"
+    ∷ codes "simple"
+    ∷ codes "static" ∷ codes "derived" ∷ codes "initially" ∷ codes "initiatedAt"
+    ∷ codes "terminatedAt"
+    ∷ codes "happensAt" ∷ codes "holdsAt" ∷ codes "holdsFor" ∷ codes "start" ∷ codes "end"
+    ∷ codes "not"
+    ∷ codes "union_all" ∷ codes "intersect_all" ∷ codes "relative_complement_all" ∷ codes "expires"
+    ∷ []
 
 abbrev pub is_reserved : List ℕ → Bool
 is_reserved word = list_any (λ r. bytes_eq r word) reserved

@@ -1,5 +1,6 @@
 -- Inputs and a sink in memory.
-use Rattle.std.specs.Prelude.{ℕ, ◌+◌, ◌-◌, ◌^◌, min, Bool, not, ◌&&◌, ◌||◌, ◌==◌, if◌then◌else◌, List, [], ◌∷◌, length, Option, Some, None, is_none, Vec}
+use Rattle.std.specs.Prelude.{ℕ, ◌+◌, ◌-◌, ◌^◌, min, Bool, not, ◌&&◌, ◌||◌, ◌==◌, if◌then◌else◌}
+use Rattle.std.specs.Prelude.{List, [], ◌∷◌, length, Option, Some, None, is_none, Vec}
 use Rattle.std.specs.List.{list_any}
 use Rattle.std.specs.Str.{bytes_eq}
 use Rattle.std.specs.declared.alloc.Global.{Global}
@@ -30,9 +31,14 @@ read_fails held name = is_chosen held.failing held.calls || is_none (bytes_of he
 
 -- after a read, which may have failed
 abbrev pub after_read : Bool → FilesInMemory → FilesInMemory
-after_read fails held = record held { calls = counted held.calls; faults = if fails then counted held.faults else held.faults }
+after_read fails held = record held {
+  calls = counted held.calls;
+  faults = if fails
+      then counted held.faults else held.faults;
+}
 
--- the bytes taken, the most that one call takes, the room in all, the calls that fail, how many calls there were, and how many failed
+-- the bytes taken, the most that one call takes, the room in all, the calls that fail, how many
+-- calls there were, and how many failed
 pub record SinkInMemory : Type 0 where
   pub bytes : List ℕ
   pub piece : ℕ
@@ -47,7 +53,8 @@ room_left sink = sink.room - length sink.bytes
 
 -- the next write fails: its call is chosen, or there are bytes and no room
 abbrev pub write_fails : SinkInMemory → List ℕ → Bool
-write_fails sink bytes = is_chosen sink.failing sink.calls || (not (length bytes == 0) && (room_left sink == 0))
+write_fails sink bytes = is_chosen sink.failing sink.calls || (not (length bytes == 0)
+    && (room_left sink == 0))
 
 -- how many bytes a write takes that does not fail
 abbrev pub taken_of : SinkInMemory → List ℕ → ℕ
@@ -55,4 +62,9 @@ taken_of sink bytes = min (min sink.piece (room_left sink)) (length bytes)
 
 -- after a write, which may have failed, with these bytes taken in all
 abbrev pub after_write : Bool → List ℕ → SinkInMemory → SinkInMemory
-after_write fails bytes sink = record sink { bytes = bytes; calls = counted sink.calls; faults = if fails then counted sink.faults else sink.faults }
+after_write fails bytes sink = record sink {
+  bytes = bytes;
+  calls = counted sink.calls;
+  faults =
+      if fails then counted sink.faults else sink.faults;
+}

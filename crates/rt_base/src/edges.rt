@@ -8,8 +8,8 @@ use std::io::{Read, Seek, SeekFrom};
 use std::marker::Model;
 use std::rt::Files;
 
-/// Real files, by their paths. What they hold is not told. One counter, which is all that contracts see of it, is the
-/// count of faults of every name.
+/// Real files, by their paths. What they hold is not told. One counter, which is all that contracts
+/// see of it, is the count of faults of every name.
 #[derive(Drop)]
 pub struct FileInputs<R: Files + Clone + Drop> {
     rt: R,
@@ -63,7 +63,8 @@ impl<R: Files + Clone + Drop> Inputs for FileInputs<R> {
     }
 }
 
-/// The real standard output. What it holds is not told, and contracts see its count of faults alone. A write that takes nothing of a piece that is not empty is a fault.
+/// The real standard output. What it holds is not told, and contracts see its count of faults
+/// alone. A write that takes nothing of a piece that is not empty is a fault.
 #[derive(Drop)]
 pub struct StdSink<R: Print + Clone + Drop> {
     rt: R,

@@ -65,8 +65,8 @@ pub fn is_reserved(word: &[u8]) -> bool
     stands_among(word, &RESERVED)
 }
 
-/// Whether a word may name a domain, an event or a fluent: 1 to 64 letters, digits and underscores, the first a
-/// lower-case letter, and not reserved.
+/// Whether a word may name a domain, an event or a fluent: 1 to 64 letters, digits and underscores,
+/// the first a lower-case letter, and not reserved.
 pub fn is_name(word: &[u8]) -> bool
     ensures { result ≡ is_name word.now }
 {

@@ -1,6 +1,7 @@
-//! What every crate stands on: where bytes come from and go to, words, lists, the gate and the counter of steps.
-//! Its promise: a fault of reading or writing is answered only where the count of faults of the object that was
-//! handed in rose, and told bytes are those that were read and written. It stands on no other crate.
+//! What every crate stands on: where bytes come from and go to, words, lists, the gate and the
+//! counter of steps. Its promise: a fault of reading or writing is answered only where the count of
+//! faults of the object that was handed in rose, and told bytes are those that were read and
+//! written. It stands on no other crate.
 #![tactic(auto)]
 
 mod edges;

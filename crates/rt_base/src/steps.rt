@@ -7,8 +7,9 @@ use std::mem;
 use std::snapshot::Snapshot;
 use std::sync::ledger::Ledger;
 
-// What was done to a counter since it was made. No memory holds a whole one: a counter has a snapshot of its tally, and a turn
-// has one of the tally before it. Only contracts see what a snapshot is of.
+// What was done to a counter since it was made. No memory holds a whole one: a counter has a
+// snapshot of its tally, and a turn has one of the tally before it. Only contracts see what a
+// snapshot is of.
 #[cycle(tally)]
 #[derive(Drop)]
 struct Tally {
@@ -51,8 +52,9 @@ impl Turn {
 
 /// A counter of steps. Contracts alone see its count, and how many of its parts are out.
 ///
-/// It can't be dropped, so that a part that is let go can't hide its steps. A part is used up by `add`, and the first counter by
-/// `end`, once no part is out. So no closure can own one either: a thread borrows its part, as by `join_mut`, where `L` is `Send`.
+/// It can't be dropped, so that a part that is let go can't hide its steps. A part is used up by
+/// `add`, and the first counter by `end`, once no part is out. So no closure can own one either: a
+/// thread borrows its part, as by `join_mut`, where `L` is `Send`.
 pub struct Steps<L: Ledger> {
     tally: Snapshot<Tally>,
     marker: PhantomData<L>,
@@ -112,7 +114,10 @@ impl<L: Ledger> Steps<L> {
     pub fn add(&mut self, part: Steps<L>)
         requires out { 0 < self.old.out }
         requires whole { part.out ≡ 0 }
-        ensures { self.new ≡ record { count = self.old.count + part.count; out = self.old.out - 1 } }
+        ensures { self.new ≡ record {
+          count = self.old.count + part.count;
+          out = self.old.out - 1;
+        } }
     {
         self.tally = Turn::Add(self.take_tally(), part.into_tally()).noted();
     }

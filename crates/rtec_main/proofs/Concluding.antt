@@ -1,5 +1,6 @@
 -- Where inputs are told and none failed, the answer of a task is what their bytes come to.
-use Rattle.std.proofs.Common.{◌≡◌, ◌⊎◌, inl, inr, ℕ, List, map, Option, Some, None, Ok, refl, sym, ap, ◌∙◌}
+use Rattle.std.proofs.Common.{◌≡◌, ◌⊎◌, inl, inr, ℕ, List, map, Option, Some, None, Ok, refl, sym}
+use Rattle.std.proofs.Common.{ap, ◌∙◌}
 use Rattle.std.specs.Prelude.{IfSome}
 use Rattle.rt_base.specs.Outside.{Rose}
 use Rattle.rule_read.specs.Forms.{plain}
@@ -13,52 +14,72 @@ use Rattle.rtec_main.specs.declared.status.Status.TheVariants as status
 use Rattle.ground_types.specs.declared.program.Program.{Program}
 use Rattle.rtec_main.specs.Described.{Described, IsDescribed, Describes, IsProgramOf}
 use Rattle.rtec_main.specs.Script.{commands_of, IsPlainScript}
-use Rattle.rtec_main.specs.Reads.{IsDescriptionOf, IsSoundDescription, IsWhyNoDescription, description_status, IsWhyNoScript, IsScriptOf, script_status}
-use Rattle.rtec_main.specs.Run.{Concludes, World, Recognise, Ground, status_of_plain, script_outcome, IsRecogniseOutcome, ground_outcome}
+use Rattle.rtec_main.specs.Reads.{IsDescriptionOf, IsSoundDescription, IsWhyNoDescription}
+use Rattle.rtec_main.specs.Reads.{description_status, IsWhyNoScript, IsScriptOf, script_status}
+use Rattle.rtec_main.specs.Run.{Concludes, World, Recognise, Ground, status_of_plain}
+use Rattle.rtec_main.specs.Run.{script_outcome, IsRecogniseOutcome, ground_outcome}
 use Rattle.rtec_main.proofs.Refusals.{description_outcome, short_outcome, script_outcome_is}
 use Rattle.rtec_main.proofs.PlainScripts.{parts_plain}
 
 -- want of memory is no fault of the bytes
-pub none_told : (description script : Option (List ℕ)) (P : List ℕ → List ℕ → Type 0) → ((d s : List ℕ) → P d s) → IfSome description (λ d. IfSome script (λ s. P d s))
+pub none_told : (description script : Option (List ℕ)) (P : List ℕ → List ℕ → Type 0)
+    → ((d s : List ℕ) → P d s) → IfSome description (λ d. IfSome script (λ s. P d s))
 none_told None script P all = tt
 none_told (Some d) None P all = tt
 none_told (Some d) (Some s) P all = all d s
 
-pub spent_report : (old new : World) (name script : List ℕ) → Concludes old new (Recognise name script) status.OutOfMemory
-spent_report old new name script = none_told (old.bytes name) (old.bytes script) _ (λ d s well fine. inl refl)
+pub spent_report : (old new : World) (name script : List ℕ)
+    → Concludes old new (Recognise name script) status.OutOfMemory
+spent_report old new name script = none_told (old.bytes name) (old.bytes script) _
+    (λ d s well fine. inl refl)
 
 -- ---- a refused description
 
-report_by_bytes : (description script : Option (List ℕ)) (before now : ℕ) (Fine : Type 0) (refused : DescriptionRefused) → IsWhyNoDescription description before now refused
+report_by_bytes : (description script : Option (List ℕ)) (before now : ℕ) (Fine : Type 0)
+    (refused : DescriptionRefused) → IsWhyNoDescription description before now refused
     → IfSome description (λ d. IfSome script (λ s. (Rose before now → ⊥) → Fine
-    → (description_status refused ≡ status.OutOfMemory) ⊎ ((is : Described) × IsDescribed d is × IsRecogniseOutcome is s (description_status refused))))
+    → (description_status refused ≡ status.OutOfMemory) ⊎ ((is : Described) × IsDescribed d is
+    × IsRecogniseOutcome is s (description_status refused))))
 report_by_bytes None script before now Fine refused why = tt
 report_by_bytes (Some d) None before now Fine refused why = tt
 report_by_bytes (Some d) (Some s) before now Fine refused why =
-    λ well fine. description_outcome (λ is t. IsRecogniseOutcome is s t) refl (λ fault. refl) (λ which. refl) d before now refused why well
+    λ well fine. description_outcome (λ is t. IsRecogniseOutcome is s t) refl (λ fault. refl)
+    (λ which. refl) d before now refused why well
 
-pub refused_report_concludes : (old new : World) (name script : List ℕ) (refused : DescriptionRefused)
-    → IsWhyNoDescription (old.bytes name) (old.faults name) (new.faults name) refused → Concludes old new (Recognise name script) (description_status refused)
+pub refused_report_concludes : (old new : World) (name script : List ℕ)
+    (refused : DescriptionRefused)
+    → IsWhyNoDescription (old.bytes name) (old.faults name) (new.faults name) refused
+    → Concludes old new (Recognise name script) (description_status refused)
 refused_report_concludes old new name script refused why =
-    report_by_bytes (old.bytes name) (old.bytes script) (old.faults name) (new.faults name) (Rose (old.faults script) (new.faults script) → ⊥) refused why
+    report_by_bytes (old.bytes name) (old.bytes script) (old.faults name) (new.faults name)
+    (Rose (old.faults script) (new.faults script) → ⊥) refused why
 
-grounding_by_bytes : (description : Option (List ℕ)) (before now : ℕ) (refused : DescriptionRefused) → IsWhyNoDescription description before now refused
+grounding_by_bytes : (description : Option (List ℕ)) (before now : ℕ)
+    (refused : DescriptionRefused) → IsWhyNoDescription description before now refused
     → IfSome description (λ d. (Rose before now → ⊥)
-    → (description_status refused ≡ status.OutOfMemory) ⊎ ((is : Described) × IsDescribed d is × (description_status refused ≡ ground_outcome is)))
+    → (description_status refused ≡ status.OutOfMemory) ⊎ ((is : Described) × IsDescribed d is
+    × (description_status refused ≡ ground_outcome is)))
 grounding_by_bytes None before now refused why = tt
 grounding_by_bytes (Some d) before now refused why =
-    λ well. description_outcome (λ is t. t ≡ ground_outcome is) refl (λ fault. refl) (λ which. refl) d before now refused why well
+    λ well. description_outcome (λ is t. t ≡ ground_outcome is) refl (λ fault. refl) (λ which.
+    refl) d before now refused why well
 
 pub refused_grounding_concludes : (old new : World) (name : List ℕ) (refused : DescriptionRefused)
-    → IsWhyNoDescription (old.bytes name) (old.faults name) (new.faults name) refused → Concludes old new (Ground name) (description_status refused)
-refused_grounding_concludes old new name refused why = grounding_by_bytes (old.bytes name) (old.faults name) (new.faults name) refused why
+    → IsWhyNoDescription (old.bytes name) (old.faults name) (new.faults name) refused
+    → Concludes old new (Ground name) (description_status refused)
+refused_grounding_concludes old new name refused why = grounding_by_bytes (old.bytes name)
+    (old.faults name) (new.faults name) refused why
 
 -- ---- a description that was taken
 
--- the status of a description that was taken is this, where each script comes to it or memory ran out
-taken_by_bytes : (description script : Option (List ℕ)) (found : Description) (t : Status) (Fine Well : Type 0)
+-- the status of a description that was taken is this, where each script comes to it or memory ran
+-- out
+taken_by_bytes : (description script : Option (List ℕ)) (found : Description) (t : Status)
+    (Fine Well : Type 0)
     → IfSome description (λ d. IsDescriptionOf d found)
-    → IfSome script (λ s. Well → (t ≡ status.OutOfMemory) ⊎ ((program : Program) × IsProgramOf (plain_checked found.checked) found.layers.of_name program × (t ≡ script_outcome program s)))
+    → IfSome script (λ s. Well → (t ≡ status.OutOfMemory)
+    ⊎ ((program : Program) × IsProgramOf (plain_checked found.checked) found.layers.of_name
+    program × (t ≡ script_outcome program s)))
     → IfSome description (λ d. IfSome script (λ s. Fine → Well
     → (t ≡ status.OutOfMemory) ⊎ ((is : Described) × IsDescribed d is × IsRecogniseOutcome is s t)))
 taken_by_bytes None script found t Fine Well is outcome = tt
@@ -66,47 +87,83 @@ taken_by_bytes (Some d) None found t Fine Well is outcome = tt
 taken_by_bytes (Some d) (Some s) found t Fine Well is outcome =
     λ fine well. elim (outcome well) [
       | inl e ↦ inl e
-      | inr so ↦ inr (Describes (map plain found.syntax.statements) (plain_checked found.checked) found.layers.of_name, is.described, so)
+      | inr so ↦ inr (
+        Describes (map plain found.syntax.statements) (plain_checked found.checked)
+            found.layers.of_name,
+        is.described,
+        so,
+      )
     ]
 
-refused_by_bytes : (script : Option (List ℕ)) (before now : ℕ) (found : Description) → IsSoundDescription found → (refused : ScriptRefused) → IsWhyNoScript script before now found.program refused
+refused_by_bytes : (script : Option (List ℕ)) (before now : ℕ) (found : Description)
+    → IsSoundDescription found → (refused : ScriptRefused) → IsWhyNoScript script before now
+    found.program refused
     → IfSome script (λ s. (Rose before now → ⊥)
-    → (script_status refused ≡ status.OutOfMemory) ⊎ ((program : Program) × IsProgramOf (plain_checked found.checked) found.layers.of_name program × (script_status refused ≡ script_outcome program s)))
+    → (script_status refused ≡ status.OutOfMemory)
+    ⊎ ((program : Program) × IsProgramOf (plain_checked found.checked) found.layers.of_name
+    program × (script_status refused ≡ script_outcome program s)))
 refused_by_bytes None before now found sound refused why = tt
 refused_by_bytes (Some s) before now found sound refused why =
-    λ well. elim (script_outcome_is found.program s before now refused why well) [ inl e ↦ inl e | inr e ↦ inr (found.program, sound.is_program, e) ]
+    λ well. elim (script_outcome_is found.program s before now refused why well) [
+      | inl e ↦ inl e
+      | inr e ↦ inr (found.program, sound.is_program, e)
+    ]
 
-pub refused_script_concludes : (old new : World) (name script : List ℕ) (found : Description) → IsSoundDescription found → IfSome (old.bytes name) (λ text. IsDescriptionOf text found)
-    → (refused : ScriptRefused) → IsWhyNoScript (old.bytes script) (old.faults script) (new.faults script) found.program refused
+pub refused_script_concludes : (old new : World) (name script : List ℕ) (found : Description)
+    → IsSoundDescription found → IfSome (old.bytes name) (λ text. IsDescriptionOf text found)
+    → (refused : ScriptRefused) → IsWhyNoScript (old.bytes script) (old.faults script)
+    (new.faults script) found.program refused
     → Concludes old new (Recognise name script) (script_status refused)
 refused_script_concludes old new name script found sound is refused why =
-    taken_by_bytes (old.bytes name) (old.bytes script) found (script_status refused) (Rose (old.faults name) (new.faults name) → ⊥) (Rose (old.faults script) (new.faults script) → ⊥) is
-    (refused_by_bytes (old.bytes script) (old.faults script) (new.faults script) found sound refused why)
+    taken_by_bytes (old.bytes name) (old.bytes script) found (script_status refused)
+    (Rose (old.faults name) (new.faults name) → ⊥) (Rose (old.faults script) (new.faults script)
+    → ⊥) is
+    (refused_by_bytes (old.bytes script) (old.faults script) (new.faults script) found sound
+    refused why)
 
-given_by_bytes : (script : Option (List ℕ)) (Well : Type 0) (found : Description) → IsSoundDescription found → (given : Script) → IfSome script (λ text. IsScriptOf found.program text given)
+given_by_bytes : (script : Option (List ℕ)) (Well : Type 0) (found : Description)
+    → IsSoundDescription found → (given : Script)
+    → IfSome script (λ text. IsScriptOf found.program text given)
     → IsPlainScript (commands_of given.commands)
-    → IfSome script (λ s. Well → (status.Done ≡ status.OutOfMemory) ⊎ ((program : Program) × IsProgramOf (plain_checked found.checked) found.layers.of_name program × (status.Done ≡ script_outcome program s)))
+    → IfSome script (λ s. Well → (status.Done ≡ status.OutOfMemory)
+    ⊎ ((program : Program) × IsProgramOf (plain_checked found.checked) found.layers.of_name
+    program × (status.Done ≡ script_outcome program s)))
 given_by_bytes None Well found sound given is parts = tt
 given_by_bytes (Some s) Well found sound given is parts =
     λ well. inr (
       found.program,
       sound.is_program,
-      sym (short_outcome found.program s (Ok given) is.short is.is ∙ ap status_of_plain (parts_plain (commands_of given.commands) parts)),
+      sym (short_outcome found.program s (Ok given) is.short is.is
+          ∙ ap status_of_plain (parts_plain (commands_of given.commands) parts)),
     )
 
-pub report_concludes : (old new : World) (name script : List ℕ) (found : Description) → IsSoundDescription found → IfSome (old.bytes name) (λ text. IsDescriptionOf text found)
+pub report_concludes : (old new : World) (name script : List ℕ) (found : Description)
+    → IsSoundDescription found → IfSome (old.bytes name) (λ text. IsDescriptionOf text found)
     → (given : Script) → IfSome (old.bytes script) (λ text. IsScriptOf found.program text given)
-    → IsPlainScript (commands_of given.commands) → Concludes old new (Recognise name script) status.Done
+    → IsPlainScript (commands_of given.commands) → Concludes old new (Recognise name script)
+    status.Done
 report_concludes old new name script found sound is given scripted parts =
-    taken_by_bytes (old.bytes name) (old.bytes script) found status.Done (Rose (old.faults name) (new.faults name) → ⊥) (Rose (old.faults script) (new.faults script) → ⊥) is
-    (given_by_bytes (old.bytes script) (Rose (old.faults script) (new.faults script) → ⊥) found sound given scripted parts)
+    taken_by_bytes (old.bytes name) (old.bytes script) found status.Done
+    (Rose (old.faults name) (new.faults name) → ⊥) (Rose (old.faults script) (new.faults script)
+    → ⊥) is
+    (given_by_bytes (old.bytes script) (Rose (old.faults script) (new.faults script) → ⊥) found
+    sound given scripted parts)
 
-grounding_taken : (description : Option (List ℕ)) (Well : Type 0) (found : Description) → IfSome description (λ d. IsDescriptionOf d found)
-    → IfSome description (λ d. Well → (status.Done ≡ status.OutOfMemory) ⊎ ((is : Described) × IsDescribed d is × (status.Done ≡ ground_outcome is)))
+grounding_taken : (description : Option (List ℕ)) (Well : Type 0) (found : Description)
+    → IfSome description (λ d. IsDescriptionOf d found)
+    → IfSome description (λ d. Well → (status.Done ≡ status.OutOfMemory)
+    ⊎ ((is : Described) × IsDescribed d is × (status.Done ≡ ground_outcome is)))
 grounding_taken None Well found is = tt
 grounding_taken (Some d) Well found is =
-    λ well. inr (Describes (map plain found.syntax.statements) (plain_checked found.checked) found.layers.of_name, is.described, refl)
+    λ well. inr (
+      Describes (map plain found.syntax.statements) (plain_checked found.checked)
+          found.layers.of_name,
+      is.described,
+      refl,
+    )
 
-pub grounding_concludes : (old new : World) (name : List ℕ) (found : Description) → IfSome (old.bytes name) (λ text. IsDescriptionOf text found)
+pub grounding_concludes : (old new : World) (name : List ℕ) (found : Description)
+    → IfSome (old.bytes name) (λ text. IsDescriptionOf text found)
     → Concludes old new (Ground name) status.Done
-grounding_concludes old new name found is = grounding_taken (old.bytes name) (Rose (old.faults name) (new.faults name) → ⊥) found is
+grounding_concludes old new name found is = grounding_taken (old.bytes name)
+    (Rose (old.faults name) (new.faults name) → ⊥) found is

@@ -1,5 +1,7 @@
 -- How many spans and points are published of a program: few enough for sums in 128 bits.
-use Rattle.std.proofs.Common.{◌≡◌, ℕ, zero, suc, ◌+◌, ◌-◌, ◌*◌, ◌≤◌, nat_le, Bool, true, false, cond, eqb, List, [], ◌∷◌, length, map, filter, slice_get, refl, sym, ◌∙◌, ap, arith}
+use Rattle.std.proofs.Common.{◌≡◌, ℕ, zero, suc, ◌+◌, ◌-◌, ◌*◌, ◌≤◌, nat_le, Bool, true, false}
+use Rattle.std.proofs.Common.{cond, eqb, List, [], ◌∷◌, length, map, filter, slice_get, refl, sym}
+use Rattle.std.proofs.Common.{◌∙◌, ap, arith}
 use Rattle.std.specs.List.{list_all, sum_by, range_with_len, enumerate_from}
 use Rattle.std.proofs.lemmas.Bool.Decides.{nat_tests}
 use Rattle.std.proofs.lemmas.List.FromFn.{length-range_with_len}
@@ -7,7 +9,8 @@ use Rattle.std.proofs.lemmas.List.Sums.{sum_by-cons}
 use Rattle.ground_types.specs.Windows.{left, right, IsSoundPlan}
 use Rattle.ground_types.specs.Truth.{Table, holds}
 use Rattle.ground_types.specs.Rows.{with_point, runs, row}
-use Rattle.ground_types.specs.Publication.{PublishedRows, value_count, rows_of_kind, rows_of_table, query_table, publication}
+use Rattle.ground_types.specs.Publication.{PublishedRows, value_count, rows_of_kind, rows_of_table}
+use Rattle.ground_types.specs.Publication.{query_table, publication}
 use Rattle.ground_types.specs.declared.plan.Plan.{Plan}
 use Rattle.ground_types.specs.declared.entries.Entry.{Entry}
 use Rattle.ground_types.specs.declared.program.Unit.{Unit as ProgramUnit}
@@ -31,7 +34,8 @@ length_with_point a [] = omega arith
 length_with_point a (s ∷ []) = one_or_two (eqb s.1 a) (s.0, a + 1) (a, a + 1) s
 length_with_point a (s ∷ t ∷ rest) = omega (arith, length_with_point a (t ∷ rest))
 
-one_more : (holds : Bool) (more spans : List (ℕ × ℕ)) (n : ℕ) → length more ≤ length spans + 1 → length spans ≤ n →
+one_more : (holds : Bool) (more spans : List (ℕ × ℕ)) (n : ℕ) → length more ≤ length spans + 1
+    → length spans ≤ n →
     length (cond holds more spans) ≤ suc n
 one_more true more spans n at le = omega arith
 one_more false more spans n at le = omega arith
@@ -40,17 +44,22 @@ one_more false more spans n at le = omega arith
 length_runs : (test : ℕ → Bool) (w n : ℕ) → length (runs test w n) ≤ n
 length_runs test w zero = omega arith
 length_runs test w (suc n) =
-    one_more (test (w + suc n)) (with_point (w + n) (runs test w n)) (runs test w n) n (length_with_point (w + n) (runs test w n)) (length_runs test w n)
+    one_more (test (w + suc n)) (with_point (w + n) (runs test w n)) (runs test w n) n
+    (length_with_point (w + n) (runs test w n)) (length_runs test w n)
 
 -- a count of what is published of each unit
-sum_at_most : (count : PublishedRows → ℕ) (rows : ℕ × ProgramUnit → PublishedRows) (test : ProgramUnit → Bool) (m : ℕ) →
+sum_at_most : (count : PublishedRows → ℕ) (rows : ℕ × ProgramUnit → PublishedRows)
+    (test : ProgramUnit → Bool) (m : ℕ) →
     ((n : ℕ) (unit : ProgramUnit) → test unit ≡ true → count (rows (n, unit)) ≤ m) →
-    (n : ℕ) (units : List ProgramUnit) → list_all test units ≡ true → sum_by count (map rows (enumerate_from n units)) ≤ length units * m
+    (n : ℕ) (units : List ProgramUnit) → list_all test units ≡ true
+    → sum_by count (map rows (enumerate_from n units)) ≤ length units * m
 sum_at_most count rows test m each n [] all = omega arith
 sum_at_most count rows test m each n (unit ∷ rest) all =
     let tail : sum_by count (map rows (enumerate_from (n + 1) rest)) ≤ length rest * m =
-    sum_at_most count rows test m each (n + 1) rest (both_right (test unit) (list_all test rest) all) in
-    let head : count (rows (n, unit)) ≤ m = each n unit (both_left (test unit) (list_all test rest) all) in
+    sum_at_most count rows test m each (n + 1) rest (both_right (test unit) (list_all test rest)
+    all) in
+    let head : count (rows (n, unit)) ≤ m = each n unit (both_left (test unit) (list_all test rest)
+    all) in
     let parts : sum_by count (rows (n, unit) ∷ map rows (enumerate_from (n + 1) rest))
     ≡ count (rows (n, unit)) + sum_by count (map rows (enumerate_from (n + 1) rest)) =
     sum_by-cons count (rows (n, unit)) (map rows (enumerate_from (n + 1) rest)) in
@@ -64,7 +73,12 @@ many_rows : (rows : ℕ → List (ℕ × ℕ)) (a count m : ℕ) → ((v : ℕ) 
     sum_by length (map rows (range_with_len a count)) ≤ count * m
 many_rows rows a zero m each = omega arith
 many_rows rows a (suc n) m each =
-    omega (arith, sum_by-cons length (rows a) (map rows (range_with_len (a + 1) n)), each a, many_rows rows (a + 1) n m each)
+    omega (
+      arith,
+      sum_by-cons length (rows a) (map rows (range_with_len (a + 1) n)),
+      each a,
+      many_rows rows (a + 1) n m each,
+    )
 
 -- a unit has at most 64 rows of spans
 spans_of_kind : (table : Table) (number count : ℕ) (kind : UnitKind) (w q : ℕ) → count ≤ 64 →
@@ -72,24 +86,28 @@ spans_of_kind : (table : Table) (number count : ℕ) (kind : UnitKind) (w q : �
 spans_of_kind table number count (Simple initially initiate terminate) w q few =
     omega (
       arith,
-      many_rows (λ v. row (holds table number v) w q) 0 count (q + 1 - w) (λ v. length_runs (holds table number v) w (q + 1 - w)),
+      many_rows (λ v. row (holds table number v) w q) 0 count (q + 1 - w)
+          (λ v. length_runs (holds table number v) w (q + 1 - w)),
       product_le count (q + 1 - w) 64 (q + 1 - w) few (omega arith),
     )
 spans_of_kind table number count (Static exprs) w q few =
     omega (
       arith,
-      many_rows (λ v. row (holds table number v) w q) 0 count (q + 1 - w) (λ v. length_runs (holds table number v) w (q + 1 - w)),
+      many_rows (λ v. row (holds table number v) w q) 0 count (q + 1 - w)
+          (λ v. length_runs (holds table number v) w (q + 1 - w)),
       product_le count (q + 1 - w) 64 (q + 1 - w) few (omega arith),
     )
 spans_of_kind table number count (Derived rules) w q few = omega arith
 
-kept_few : (b : Bool) (x : ℕ) (xs : List ℕ) (n : ℕ) → length xs ≤ n → length (cond b (x ∷ xs) xs) ≤ suc n
+kept_few : (b : Bool) (x : ℕ) (xs : List ℕ) (n : ℕ) → length xs ≤ n → length (cond b (x ∷ xs) xs)
+    ≤ suc n
 kept_few true x xs n few = omega (arith, few)
 kept_few false x xs n few = omega (arith, few)
 
 length_filter : (test : ℕ → Bool) (xs : List ℕ) → length (filter test xs) ≤ length xs
 length_filter test [] = omega arith
-length_filter test (x ∷ xs) = kept_few (test x) x (filter test xs) (length xs) (length_filter test xs)
+length_filter test (x ∷ xs) = kept_few (test x) x (filter test xs) (length xs)
+    (length_filter test xs)
 
 -- or one of points
 points_of_kind : (table : Table) (number count : ℕ) (kind : UnitKind) (w q : ℕ) →
@@ -97,14 +115,21 @@ points_of_kind : (table : Table) (number count : ℕ) (kind : UnitKind) (w q : �
 points_of_kind table number count (Simple initially initiate terminate) w q = omega arith
 points_of_kind table number count (Static exprs) w q = omega arith
 points_of_kind table number count (Derived rules) w q =
-    omega (arith, length_filter (table.derived number) (range_with_len (w + 1) (q - w)), length-range_with_len (w + 1) (q - w))
+    omega (
+      arith,
+      length_filter (table.derived number) (range_with_len (w + 1) (q - w)),
+      length-range_with_len (w + 1) (q - w),
+    )
 
-few_values : (names : List Name) (n : ℕ) → list_all has_few_values names ≡ true → value_count (slice_get names n) ≤ 64
+few_values : (names : List Name) (n : ℕ) → list_all has_few_values names ≡ true
+    → value_count (slice_get names n) ≤ 64
 few_values [] n all = omega arith
 few_values (name ∷ names) zero all =
-    let here : nat_le (length name.values) 64 ≡ true = both_left (has_few_values name) (list_all has_few_values names) all in
+    let here : nat_le (length name.values) 64 ≡ true = both_left (has_few_values name)
+    (list_all has_few_values names) all in
     grind (arith, nat_tests)
-few_values (name ∷ names) (suc n) all = few_values names n (both_right (has_few_values name) (list_all has_few_values names) all)
+few_values (name ∷ names) (suc n) all = few_values names n (both_right (has_few_values name)
+    (list_all has_few_values names) all)
 
 all_pass : (units : List ProgramUnit) → list_all (λ unit. true) units ≡ true
 all_pass [] = refl
@@ -113,53 +138,70 @@ all_pass (unit ∷ units) = all_pass units
 spans_of_table : (program : Program) (table : Table) (w q : ℕ) → IsDeclared program →
     sum_by span_count (rows_of_table program table w q) ≤ length program.units * (64 * (q + 1 - w))
 spans_of_table program table w q declared =
-    sum_at_most span_count (λ unit. rows_of_kind table unit.0 (value_count (slice_get program.names unit.1.name)) unit.1.kind w q)
+    sum_at_most span_count (λ unit. rows_of_kind table unit.0
+    (value_count (slice_get program.names unit.1.name)) unit.1.kind w q)
     (λ unit. true) (64 * (q + 1 - w))
-    (λ n unit is. spans_of_kind table n (value_count (slice_get program.names unit.name)) unit.kind w q (few_values program.names unit.name declared.values_few))
+    (λ n unit is. spans_of_kind table n (value_count (slice_get program.names unit.name)) unit.kind
+    w q (few_values program.names unit.name declared.values_few))
     0 program.units (all_pass program.units)
 
 points_of_table : (program : Program) (table : Table) (w q : ℕ) →
     sum_by point_count (rows_of_table program table w q) ≤ length program.units * (q + 1 - w)
 points_of_table program table w q =
-    sum_at_most point_count (λ unit. rows_of_kind table unit.0 (value_count (slice_get program.names unit.1.name)) unit.1.kind w q)
+    sum_at_most point_count (λ unit. rows_of_kind table unit.0
+    (value_count (slice_get program.names unit.1.name)) unit.1.kind w q)
     (λ unit. true) (q + 1 - w)
-    (λ n unit is. points_of_kind table n (value_count (slice_get program.names unit.name)) unit.kind w q)
+    (λ n unit is. points_of_kind table n (value_count (slice_get program.names unit.name))
+    unit.kind w q)
     0 program.units (all_pass program.units)
 
-sum_by_map : {A B : Type 0} (count : B → ℕ) (f : A → B) (xs : List A) → sum_by count (map f xs) ≡ sum_by (λ x. count (f x)) xs
+sum_by_map : {A B : Type 0} (count : B → ℕ) (f : A → B) (xs : List A) → sum_by count (map f xs)
+    ≡ sum_by (λ x. count (f x)) xs
 sum_by_map count f [] = refl
 sum_by_map count f (x ∷ xs) =
-    sum_by-cons count (f x) (map f xs) ∙ ap (λ (n : ℕ). count (f x) + n) (sum_by_map count f xs) ∙ sym (sum_by-cons (λ y. count (f y)) x xs)
+    sum_by-cons count (f x) (map f xs) ∙ ap (λ (n : ℕ). count (f x) + n) (sum_by_map count f xs)
+    ∙ sym (sum_by-cons (λ y. count (f y)) x xs)
 
 -- a window has a value point more than event points
 width : (plan : Plan) (k : ℕ) → IsSoundPlan plan → right plan k + 1 - left plan k ≤ 1000000000001
 width plan k sound = omega (arith, sound.window_most)
 
 -- the spans of rows that are published of a program
-pub few_spans : (program : Program) (history : List Entry) (k : ℕ) (rows : List UnitRows) → IsDeclared program →
+pub few_spans : (program : Program) (history : List Entry) (k : ℕ) (rows : List UnitRows)
+    → IsDeclared program →
     map published rows ≡ (publication program history k).rows →
     sum_by (λ unit. span_count (published unit)) rows ≤ 65536 * (64 * 1000000000001)
 few_spans program history k rows declared are =
-    let same : sum_by (λ unit. span_count (published unit)) rows ≡ sum_by span_count (publication program history k).rows =
-    sym (sum_by_map span_count published rows) ∙ ap (λ (r : List PublishedRows). sum_by span_count r) are in
-    let width : right program.plan k + 1 - left program.plan k ≤ 1000000000001 = width program.plan k declared.sound.plan in
+    let same : sum_by (λ unit. span_count (published unit)) rows ≡ sum_by span_count
+    (publication program history k).rows =
+    sym (sum_by_map span_count published rows) ∙ ap (λ (r : List PublishedRows). sum_by span_count
+    r) are in
+    let width : right program.plan k + 1 - left program.plan k ≤ 1000000000001 =
+    width program.plan k declared.sound.plan in
     omega (
       arith,
       same,
-      spans_of_table program (query_table program history k) (left program.plan k) (right program.plan k) declared,
-      product_le (length program.units) (64 * (right program.plan k + 1 - left program.plan k)) 65536 (64 * 1000000000001) declared.sound.units_most (omega arith),
+      spans_of_table program (query_table program history k) (left program.plan k)
+          (right program.plan k) declared,
+      product_le (length program.units) (64 * (right program.plan k + 1 - left program.plan k))
+          65536 (64 * 1000000000001) declared.sound.units_most (omega arith),
     )
 
 -- and their points
-pub few_points : (program : Program) (history : List Entry) (k : ℕ) (rows : List UnitRows) → IsDeclared program →
+pub few_points : (program : Program) (history : List Entry) (k : ℕ) (rows : List UnitRows)
+    → IsDeclared program →
     map published rows ≡ (publication program history k).rows →
     sum_by (λ unit. point_count (published unit)) rows ≤ 65536 * 1000000000001
 few_points program history k rows declared are =
-    let same : sum_by (λ unit. point_count (published unit)) rows ≡ sum_by point_count (publication program history k).rows =
-    sym (sum_by_map point_count published rows) ∙ ap (λ (r : List PublishedRows). sum_by point_count r) are in
+    let same : sum_by (λ unit. point_count (published unit)) rows ≡ sum_by point_count
+    (publication program history k).rows =
+    sym (sum_by_map point_count published rows)
+    ∙ ap (λ (r : List PublishedRows). sum_by point_count r) are in
     omega (
       arith,
       same,
-      points_of_table program (query_table program history k) (left program.plan k) (right program.plan k),
-      product_le (length program.units) (right program.plan k + 1 - left program.plan k) 65536 1000000000001 declared.sound.units_most (width program.plan k declared.sound.plan),
+      points_of_table program (query_table program history k) (left program.plan k)
+          (right program.plan k),
+      product_le (length program.units) (right program.plan k + 1 - left program.plan k) 65536
+          1000000000001 declared.sound.units_most (width program.plan k declared.sound.plan),
     )

@@ -1,5 +1,6 @@
 -- The program of a description that was taken.
-use Rattle.std.proofs.Common.{◌≡◌, ℕ, ◌+◌, ◌≤◌, nat_le, Bool, true, ◌&&◌, if◌then◌else◌, List, [], ◌∷◌, length, refl, sym, ap, ap₂, subst, ◌∙◌, arith}
+use Rattle.std.proofs.Common.{◌≡◌, ℕ, ◌+◌, ◌≤◌, nat_le, Bool, true, ◌&&◌, if◌then◌else◌, List, []}
+use Rattle.std.proofs.Common.{◌∷◌, length, refl, sym, ap, ap₂, subst, ◌∙◌, arith}
 use Rattle.std.specs.List.{list_all}
 use Rattle.std.proofs.lemmas.Bool.Decides.{nat_tests}
 use Rattle.ground_types.specs.Sound.{is_input, arguments_of}
@@ -18,40 +19,50 @@ use Rattle.rtec_main.proofs.Both.{both_left, both_right}
 
 -- ---- a test of kinds and values passes whatever the first numbers
 
-numbered_alike : (test : NameKind → List (List ℕ) → Bool) (domains : List Domain) (event unit : ℕ) (names : List Name) →
-    list_all (λ name. test name.kind name.values) (numbered domains event unit names) ≡ list_all (λ name. test name.kind name.values) names
+numbered_alike : (test : NameKind → List (List ℕ) → Bool) (domains : List Domain) (event unit : ℕ)
+    (names : List Name) →
+    list_all (λ name. test name.kind name.values) (numbered domains event unit names)
+    ≡ list_all (λ name. test name.kind name.values) names
 numbered_alike test domains event unit [] = refl
 numbered_alike test domains event unit (name ∷ names) =
     let count = length (arguments_of domains name) in
     ap (λ (b : Bool). test name.kind name.values && b)
-    (numbered_alike test domains (if is_input name.kind then event + count else event) (if is_input name.kind then unit else unit + count) names)
+    (numbered_alike test domains (if is_input name.kind then event + count else event)
+    (if is_input name.kind then unit else unit + count) names)
 
 -- ---- no name has many values
 
-few_by : (kind : NameKind) (values : List (List ℕ)) → has_sound_values kind values ≡ true → nat_le (length values) 64 ≡ true
+few_by : (kind : NameKind) (values : List (List ℕ)) → has_sound_values kind values ≡ true
+    → nat_le (length values) 64 ≡ true
 few_by name_kind.Input values h = grind (arith, nat_tests)
 few_by name_kind.Derived values h = grind (arith, nat_tests)
 few_by name_kind.Simple values h = both_right _ (nat_le (length values) 64) h
 few_by name_kind.Static values h = both_right _ (nat_le (length values) 64) h
 
-few_all : (n : ℕ) (names : List Name) → list_all (is_sound_name n) names ≡ true → list_all has_few_values names ≡ true
+few_all : (n : ℕ) (names : List Name) → list_all (is_sound_name n) names ≡ true
+    → list_all has_few_values names ≡ true
 few_all n [] all = refl
 few_all n (name ∷ names) all =
     ap₂ ◌&&◌
-    (few_by name.kind name.values (both_right _ (has_sound_values name.kind name.values) (both_left (is_sound_name n name) (list_all (is_sound_name n) names) all)))
+    (few_by name.kind name.values (both_right _ (has_sound_values name.kind name.values)
+    (both_left (is_sound_name n name) (list_all (is_sound_name n) names) all)))
     (few_all n names (both_right (is_sound_name n name) (list_all (is_sound_name n) names) all))
 
 abbrev is_few : NameKind → List (List ℕ) → Bool
 is_few kind values = nat_le (length values) 64
 
 -- the program of a description that was taken
-pub declared_program_is : (found : Description) → IsSoundDescription found → IsDeclared found.program
+pub declared_program_is : (found : Description) → IsSoundDescription found
+    → IsDeclared found.program
 declared_program_is found sound =
-    let named : found.program.names ≡ numbered found.checked.domains 0 0 found.checked.names = ap (λ (p : PlainProgram). p.names) sound.is_program in
+    let named : found.program.names ≡ numbered found.checked.domains 0 0 found.checked.names =
+    ap (λ (p : PlainProgram). p.names) sound.is_program in
     record {
       sound = sound.program;
-      query_some = subst (λ (plan : Plan). 1 ≤ plan.queries) (sym (ap (λ (p : PlainProgram). p.plan) sound.is_program)) sound.checked.query_some;
+      query_some = subst (λ (plan : Plan). 1 ≤ plan.queries)
+          (sym (ap (λ (p : PlainProgram). p.plan) sound.is_program)) sound.checked.query_some;
       values_few =
-          ap (list_all has_few_values) named ∙ numbered_alike is_few found.checked.domains 0 0 found.checked.names
+          ap (list_all has_few_values) named ∙ numbered_alike is_few found.checked.domains 0 0
+          found.checked.names
           ∙ few_all (length found.checked.domains) found.checked.names sound.checked.names;
     }

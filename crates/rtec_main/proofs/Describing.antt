@@ -13,14 +13,18 @@ use Rattle.ground_rules.specs.declared.refused.GroundRefused.TheVariants as grou
 use Rattle.rtec_main.specs.Reads.{IsDescriptionRefused, unlayered, ungrounded, has_described_limit}
 use Rattle.rtec_main.proofs.Limited.{exceeded_is_described}
 
-pub unlayered_is_refused : (text : List ℕ) (statements : List PlainStatement) (checked : PlainChecked) (e : StrataRefused)
+pub unlayered_is_refused : (text : List ℕ) (statements : List PlainStatement)
+    (checked : PlainChecked) (e : StrataRefused)
     → reading text ≡ Statements statements → checking statements ≡ Ok checked
-    → ((place line : ℕ) → ◌≡◌ {A = Result LayerList StrataRefused} (Err e) (Err (strata.Cyclic place line)) → IsFirstCycle checked.rules checked.names place line)
+    → ((place line : ℕ) → ◌≡◌ {A = Result LayerList StrataRefused} (Err e)
+    (Err (strata.Cyclic place line)) → IsFirstCycle checked.rules checked.names place line)
     → IsDescriptionRefused text (unlayered e)
 unlayered_is_refused text statements checked (strata.Cyclic place line) read accepted cyclic =
     (statements, checked, place, (read, accepted), cyclic place line refl)
 unlayered_is_refused text statements checked strata.OutOfMemory read accepted cyclic = tt
 
-pub ungrounded_limit : (checked : PlainChecked) (of_name : List ℕ) (e : GroundRefused) → Answers (Err e) checked of_name → has_described_limit (ungrounded e) ≡ true
-ungrounded_limit checked of_name (grounding.TooLarge which) h = exceeded_is_described checked which h
+pub ungrounded_limit : (checked : PlainChecked) (of_name : List ℕ) (e : GroundRefused)
+    → Answers (Err e) checked of_name → has_described_limit (ungrounded e) ≡ true
+ungrounded_limit checked of_name (grounding.TooLarge which) h = exceeded_is_described checked which
+    h
 ungrounded_limit checked of_name grounding.OutOfMemory h = refl

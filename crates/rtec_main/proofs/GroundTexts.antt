@@ -8,29 +8,37 @@ use Rattle.rule_read.specs.Forms.{PlainStatement, plain, plain_form}
 use Rattle.rule_read.specs.Canonical.{text_of}
 use Rattle.domain_decl.specs.Accepted.{PlainChecked}
 use Rattle.ground_rules.specs.Assignments.{Clause, instances}
-use Rattle.ground_rules.specs.Grounded.{plain_unit, PlainProgram, plain_program, numbered_names, units_of, greatest_layer, event_count, clauses, grounded}
+use Rattle.ground_rules.specs.Grounded.{plain_unit, PlainProgram, plain_program, numbered_names}
+use Rattle.ground_rules.specs.Grounded.{units_of, greatest_layer, event_count, clauses, grounded}
 use Rattle.ground_rules.specs.Limits.{unit_count, rule_count}
 use Rattle.rtec_main.specs.GroundText.{counts_text, layers_text, ground_text}
 use Rattle.rtec_main.proofs.UnitCounts.{units_counted, layers_counted}
 
-module _ (checked : PlainChecked) (of_name : List ℕ) (program : Program) (made : plain_program program ≡ grounded checked of_name) where
+module _ (checked : PlainChecked) (of_name : List ℕ) (program : Program)
+    (made : plain_program program ≡ grounded checked of_name) where
   abbrev all : List Clause
   all = clauses checked
 
   pub count_of_units : length program.units ≡ unit_count checked.domains checked.names
   count_of_units =
-      sym (length-map program.units plain_unit) ∙ ap (λ (p : PlainProgram). length p.units) made ∙ units_counted checked.domains (flat_map instances all) checked.names
+      sym (length-map program.units plain_unit) ∙ ap (λ (p : PlainProgram). length p.units) made
+      ∙ units_counted checked.domains (flat_map instances all) checked.names
 
   count_of_layers : length program.layers ≡ greatest_layer of_name
-  count_of_layers = ap (λ (p : PlainProgram). length p.layers) made ∙ layers_counted of_name (units_of checked.domains (numbered_names checked) (flat_map instances all))
+  count_of_layers = ap (λ (p : PlainProgram). length p.layers) made ∙ layers_counted of_name
+      (units_of checked.domains (numbered_names checked) (flat_map instances all))
 
-  pub text_is : (statements : List Statement) (listed : List Clause) → listed ≡ all → (first : List ℕ) → first ≡ text_of (map (λ s. plain_form s.form) statements)
+  pub text_is : (statements : List Statement) (listed : List Clause) → listed ≡ all
+      → (first : List ℕ) → first ≡ text_of (map (λ s. plain_form s.form) statements)
       → (rules : ℕ) → rules ≡ rule_count listed
-      → first ++ counts_text program.events (length program.units) rules (length program.layers) ++ layers_text (plain_program program) (flat_map instances listed)
+      → first ++ counts_text program.events (length program.units) rules (length program.layers)
+      ++ layers_text (plain_program program) (flat_map instances listed)
       ≡ ground_text (map plain statements) checked of_name
   text_is statements listed same first is rules count =
       ap₂ ◌++◌
       (ap₂ ◌++◌ (is ∙ ap text_of (sym (map-map (λ (s : PlainStatement). s.form) plain statements)))
-      (ap₂ (λ events units. counts_text events units rules (length program.layers)) (ap (λ (p : PlainProgram). p.events) made) count_of_units
-      ∙ ap₂ (counts_text (event_count checked.domains checked.names) (unit_count checked.domains checked.names)) (count ∙ ap rule_count same) count_of_layers))
+      (ap₂ (λ events units. counts_text events units rules (length program.layers))
+      (ap (λ (p : PlainProgram). p.events) made) count_of_units
+      ∙ ap₂ (counts_text (event_count checked.domains checked.names) (unit_count checked.domains
+      checked.names)) (count ∙ ap rule_count same) count_of_layers))
       (ap₂ layers_text made (ap (flat_map instances) same))

@@ -1,11 +1,15 @@
 -- The history of commands: it is legal, and that of a plain script is plain.
-use Rattle.std.proofs.Common.{◌≡◌, ℕ, ◌+◌, ◌<◌, ◌≤◌, Bool, true, cond, ◌&&◌, List, [], ◌∷◌, ◌++◌, length, take, refl, sym, ◌∙◌, ap, ap₂, subst, arith, append_assoc, append-nil, length-append}
+use Rattle.std.proofs.Common.{◌≡◌, ℕ, ◌+◌, ◌<◌, ◌≤◌, Bool, true, cond, ◌&&◌, List, [], ◌∷◌, ◌++◌}
+use Rattle.std.proofs.Common.{length, take, refl, sym, ◌∙◌, ap, ap₂, subst, arith, append_assoc}
+use Rattle.std.proofs.Common.{append-nil, length-append}
 use Rattle.std.specs.List.{list_all}
 use Rattle.std.proofs.lemmas.List.{take-append-le}
 use Rattle.std.proofs.lemmas.List.Folds.{list_all-append}
 use Rattle.std.proofs.lemmas.List.Elements.{All-take}
-use Rattle.std.proofs.lemmas.List.Sums.{sum_by-append, sum_by-cons, fold-append, AllPass-from_list_all, list_all-from_AllPass}
-use Rattle.ground_types.specs.History.{seals, is_seal, reply_to, FollowsLegally, AreLegalAfter, IsLegal}
+use Rattle.std.proofs.lemmas.List.Sums.{sum_by-append, sum_by-cons, fold-append}
+use Rattle.std.proofs.lemmas.List.Sums.{AllPass-from_list_all, list_all-from_AllPass}
+use Rattle.ground_types.specs.History.{seals, is_seal, reply_to, FollowsLegally, AreLegalAfter}
+use Rattle.ground_types.specs.History.{IsLegal}
 use Rattle.ground_types.specs.declared.plan.Plan.{Plan}
 use Rattle.ground_types.specs.declared.entries.Act.TheVariants.{Add, Revoke}
 use Rattle.ground_types.specs.declared.entries.Entry.{Entry}
@@ -18,52 +22,75 @@ use Rattle.rtec_main.specs.Recognised.{is_fed_add, IsPlainHistory}
 use Rattle.rtec_main.specs.Report.{entries_of, history_after, history_of}
 
 -- a legal history goes on legally with an entry that follows it legally
-legal_push : (plan : Plan) (before xs : List Entry) (x : Entry) → AreLegalAfter plan before xs → FollowsLegally plan (before ++ xs) x →
+legal_push : (plan : Plan) (before xs : List Entry) (x : Entry) → AreLegalAfter plan before xs
+    → FollowsLegally plan (before ++ xs) x →
     AreLegalAfter plan before (xs ++ x ∷ [])
-legal_push plan before [] x legal last = (subst (λ (h : List Entry). FollowsLegally plan h x) (append-nil before) last, tt)
+legal_push plan before [] x legal last = (
+  subst (λ (h : List Entry). FollowsLegally plan h x)
+      (append-nil before) last,
+  tt,
+)
 legal_push plan before (y ∷ ys) x legal last = (
   legal.0,
   legal_push plan (before ++ y ∷ []) ys x legal.1
-      (subst (λ (h : List Entry). FollowsLegally plan h x) (sym (append_assoc before (y ∷ []) ys)) last),
+      (subst (λ (h : List Entry). FollowsLegally plan h x) (sym (append_assoc before (y ∷ []) ys))
+      last),
 )
 
 -- so it does with the entry of a command
 legal_more : (plan : Plan) (history : List Entry) (c : Command) → AreLegalAfter plan [] history →
     AreLegalAfter plan [] (history ++ entries_of plan history c)
 legal_more plan history (command.Feed feeder act event at) legal =
-    legal_push plan [] history (Fed feeder act event at (reply_to plan history act event at)) legal refl
-legal_more plan history command.Seal legal = legal_push plan [] history (Seal (seals history)) legal refl
-legal_more plan history (command.Ask query) legal = subst (λ (h : List Entry). AreLegalAfter plan [] h) (sym (append-nil history)) legal
-legal_more plan history (command.Wait count) legal = subst (λ (h : List Entry). AreLegalAfter plan [] h) (sym (append-nil history)) legal
+    legal_push plan [] history (Fed feeder act event at (reply_to plan history act event at)) legal
+    refl
+legal_more plan history command.Seal legal = legal_push plan [] history (Seal (seals history))
+    legal refl
+legal_more plan history (command.Ask query) legal =
+    subst (λ (h : List Entry). AreLegalAfter plan [] h) (sym (append-nil history)) legal
+legal_more plan history (command.Wait count) legal =
+    subst (λ (h : List Entry). AreLegalAfter plan [] h) (sym (append-nil history)) legal
 legal_more plan history (command.After feeder count) legal =
     subst (λ (h : List Entry). AreLegalAfter plan [] h) (sym (append-nil history)) legal
 
 -- the history of commands has right replies and seal numbers
-pub legal_all : (plan : Plan) (history : List Entry) (commands : List Command) → AreLegalAfter plan [] history →
+pub legal_all : (plan : Plan) (history : List Entry) (commands : List Command)
+    → AreLegalAfter plan [] history →
     AreLegalAfter plan [] (history_after plan history commands)
 legal_all plan history [] legal = legal
-legal_all plan history (c ∷ rest) legal = legal_all plan (history ++ entries_of plan history c) rest (legal_more plan history c legal)
+legal_all plan history (c ∷ rest) legal = legal_all plan (history ++ entries_of plan history c)
+    rest (legal_more plan history c legal)
 
 -- entries that are adds
 abbrev AreFed : List Entry → Type 0
 AreFed entries = list_all is_fed_add entries ≡ true
 
 fed_push : (xs : List Entry) (x : Entry) → AreFed xs → is_fed_add x ≡ true → AreFed (xs ++ x ∷ [])
-fed_push xs x fed is = list_all-append is_fed_add xs (x ∷ []) ∙ ap₂ (λ (a b : Bool). a && (b && true)) fed is
+fed_push xs x fed is = list_all-append is_fed_add xs (x ∷ [])
+    ∙ ap₂ (λ (a b : Bool). a && (b && true)) fed is
 
 -- adds make as many fed entries
 record AddsSo (count : ℕ) (history : List Entry) : Type 0 where
   pub fed : AreFed history
   pub length : length history ≡ count
 
-adds_so : (plan : Plan) (history : List Entry) (adds : List Command) → list_all is_add adds ≡ true → AreFed history →
+adds_so : (plan : Plan) (history : List Entry) (adds : List Command) → list_all is_add adds ≡ true
+    → AreFed history →
     AddsSo (length history + length adds) (history_after plan history adds)
 adds_so plan history [] are fed = record { fed = fed; length = omega arith }
 adds_so plan history (command.Feed feeder Add event at ∷ rest) are fed =
     let entry : Entry = Fed feeder Add event at (reply_to plan history Add event at) in
-    let more : AddsSo (length (history ++ entry ∷ []) + length rest) (history_after plan (history ++ entry ∷ []) rest) =
+    let more : AddsSo (length (history ++ entry ∷ []) + length rest)
+    (history_after plan (history ++ entry ∷ []) rest) =
     adds_so plan (history ++ entry ∷ []) rest are (fed_push history entry fed refl) in
-    record { fed = more.fed; length = omega (arith, more.length, length-append history (entry ∷ [])) }
+    record {
+      fed = more.fed;
+      length = omega (
+        arith,
+        more.length,
+        length-append history
+            (entry ∷ []),
+      );
+    }
 adds_so plan history (command.Feed feeder Revoke event at ∷ rest) are fed = cc
 adds_so plan history (command.Seal ∷ rest) are fed = cc
 adds_so plan history (command.Ask query ∷ rest) are fed = cc
@@ -88,32 +115,45 @@ no_seals (x ∷ xs) fed =
       no_seals xs (both_right (is_fed_add x) (list_all is_fed_add xs) fed),
     )
 
-fed_adds : (plan : Plan) (adds : List Command) → list_all is_add adds ≡ true → AddsSo (length adds) (history_of plan adds)
+fed_adds : (plan : Plan) (adds : List Command) → list_all is_add adds ≡ true
+    → AddsSo (length adds) (history_of plan adds)
 fed_adds plan adds are =
     let made : AddsSo (0 + length adds) (history_of plan adds) = adds_so plan [] adds are refl in
     record { fed = made.fed; length = omega (arith, made.length) }
 
-front_all : {X : Type 0} (test : X → Bool) (n : ℕ) (xs : List X) → list_all test xs ≡ true → list_all test (take n xs) ≡ true
+front_all : {X : Type 0} (test : X → Bool) (n : ℕ) (xs : List X) → list_all test xs ≡ true
+    → list_all test (take n xs) ≡ true
 front_all test n xs all =
-    list_all-from_AllPass test (take n xs) (All-take (λ x. test x ≡ true) n xs (AllPass-from_list_all test xs all))
+    list_all-from_AllPass test (take n xs) (All-take (λ x. test x ≡ true) n xs
+    (AllPass-from_list_all test xs all))
 
 -- before each command of a plain script no query is sealed
-pub unsealed : (plan : Plan) (commands : List Command) (i : ℕ) → IsPlainScript commands → i < length commands →
+pub unsealed : (plan : Plan) (commands : List Command) (i : ℕ) → IsPlainScript commands
+    → i < length commands →
     seals (history_of plan (take i commands)) ≡ 0
 unsealed plan commands i (adds, are, few, is) within =
-    let short : i ≤ length adds = omega (arith, ap (λ (c : List Command). length c) is, length-append adds (command.Seal ∷ [])) in
-    let front : take i commands ≡ take i adds = ap (λ (c : List Command). take i c) is ∙ take-append-le i adds (command.Seal ∷ []) short in
+    let short : i ≤ length adds = omega (
+      arith,
+      ap (λ (c : List Command). length c) is,
+      length-append adds (command.Seal ∷ []),
+    ) in
+    let front : take i commands ≡ take i adds = ap (λ (c : List Command). take i c) is
+    ∙ take-append-le i adds (command.Seal ∷ []) short in
     ap (λ (c : List Command). seals (history_of plan c)) front
-    ∙ no_seals (history_of plan (take i adds)) (fed_adds plan (take i adds) (front_all is_add i adds are)).fed
+    ∙ no_seals (history_of plan (take i adds)) (fed_adds plan (take i adds)
+    (front_all is_add i adds are)).fed
 
 -- the adds and then the seal of query 0
 plain_is : (plan : Plan) (adds : List Command) → list_all is_add adds ≡ true →
     history_of plan (adds ++ command.Seal ∷ []) ≡ history_of plan adds ++ Seal 0 ∷ []
 plain_is plan adds are =
-    fold-append (λ (h : List Entry) (c : Command). h ++ entries_of plan h c) [] adds (command.Seal ∷ [])
-    ∙ ap (λ (n : ℕ). history_of plan adds ++ Seal n ∷ []) (no_seals (history_of plan adds) (fed_adds plan adds are).fed)
+    fold-append (λ (h : List Entry) (c : Command). h ++ entries_of plan h c) [] adds
+    (command.Seal ∷ [])
+    ∙ ap (λ (n : ℕ). history_of plan adds ++ Seal n ∷ []) (no_seals (history_of plan adds)
+    (fed_adds plan adds are).fed)
 
-pub plain_all : (plan : Plan) (commands : List Command) → IsPlainScript commands → IsPlainHistory (history_of plan commands)
+pub plain_all : (plan : Plan) (commands : List Command) → IsPlainScript commands
+    → IsPlainHistory (history_of plan commands)
 plain_all plan commands (adds, are, few, is) =
     let made : AddsSo (length adds) (history_of plan adds) = fed_adds plan adds are in
     record {
@@ -131,7 +171,8 @@ one_seal history plain =
     ∙ ap (λ (n : ℕ). n + 1) (no_seals plain.adds plain.are_adds)
 
 -- the history of a plain script is legal where there is a query
-pub plain_legal : (plan : Plan) (commands : List Command) → IsPlainScript commands → 1 ≤ plan.queries → IsLegal plan (history_of plan commands)
+pub plain_legal : (plan : Plan) (commands : List Command) → IsPlainScript commands
+    → 1 ≤ plan.queries → IsLegal plan (history_of plan commands)
 plain_legal plan commands plain some = record {
   entries = legal_all plan [] commands tt;
   few_seals = omega (arith, one_seal (history_of plan commands) (plain_all plan commands plain));

@@ -1,5 +1,7 @@
 -- What it says of a run that its description, or its script, is refused.
-use Rattle.std.proofs.Common.{◌≡◌, ◌⊎◌, inl, inr, ℕ, ◌<◌, ◌≤◌, ltb, true, false, List, length, Option, Some, Result, Ok, refl, sym, ap, ◌∙◌, subst, arith, if◌then◌else◌}
+use Rattle.std.proofs.Common.{◌≡◌, ◌⊎◌, inl, inr, ℕ, ◌<◌, ◌≤◌, ltb, true, false, List, length}
+use Rattle.std.proofs.Common.{Option, Some, Result, Ok, refl, sym, ap, ◌∙◌, subst, arith}
+use Rattle.std.proofs.Common.{if◌then◌else◌}
 use Rattle.std.proofs.lemmas.Bool.Decides.{nat_tests}
 use Rattle.rt_base.specs.Outside.{Rose}
 use Rattle.rt_base.specs.declared.limit.Limit.{Limit}
@@ -16,42 +18,62 @@ use Rattle.rtec_main.specs.declared.status.Status.{Status}
 use Rattle.rtec_main.specs.declared.status.Status.TheVariants as status
 use Rattle.rtec_main.specs.Described.{Described, IsDescribed, TooLong, Faulty, Exceeds}
 use Rattle.rtec_main.specs.Script.{longest, merged}
-use Rattle.rtec_main.specs.Reads.{IsWhyNoDescription, description_status, IsWhyNoScript, script_status}
-use Rattle.rtec_main.specs.Run.{World, Runs, RefusesScript as SaysScript, status_of_plain, of_merged, script_outcome}
+use Rattle.rtec_main.specs.Reads.{IsWhyNoDescription, description_status, IsWhyNoScript}
+use Rattle.rtec_main.specs.Reads.{script_status}
+use Rattle.rtec_main.specs.Run.{World, Runs, RefusesScript as SaysScript, status_of_plain}
+use Rattle.rtec_main.specs.Run.{of_merged, script_outcome}
 
 -- ---- the status of a refusal says why
 
-pub script_says : (old new : World) (described name : List ℕ) (program : Program) → Runs old described program → (refused : ScriptRefused)
+pub script_says : (old new : World) (described name : List ℕ) (program : Program)
+    → Runs old described program → (refused : ScriptRefused)
     → IsWhyNoScript (old.bytes name) (old.faults name) (new.faults name) program refused
-    → (script_status refused ≡ status.OutOfMemory) ⊎ SaysScript old new described name (script_status refused)
+    → (script_status refused ≡ status.OutOfMemory) ⊎ SaysScript old new described name
+    (script_status refused)
 script_says old new described name program runs script.Fault why = inr (why, (program, runs))
-script_says old new described name program runs script.TooLong why = inr (record { program = program; runs = runs; is_script = why })
-script_says old new described name program runs (script.BadRecord number) why = inr (record { program = program; runs = runs; is_script = why })
-script_says old new described name program runs script.TooMany why = inr (record { program = program; runs = runs; is_script = why })
-script_says old new described name program runs script.NotPlain why = inr (record { program = program; runs = runs; is_script = why })
+script_says old new described name program runs script.TooLong why =
+    inr (record { program = program; runs = runs; is_script = why })
+script_says old new described name program runs (script.BadRecord number) why =
+    inr (record { program = program; runs = runs; is_script = why })
+script_says old new described name program runs script.TooMany why =
+    inr (record { program = program; runs = runs; is_script = why })
+script_says old new described name program runs script.NotPlain why =
+    inr (record { program = program; runs = runs; is_script = why })
 script_says old new described name program runs script.OutOfMemory why = inl refl
 
 rose_since : (before mid now : ℕ) → before ≤ mid → Rose mid now → Rose before now
 rose_since before mid now later rose = omega arith
 
 -- a script that is refused as inputs stand later is refused as they stood before
-pub script_refused_before : (told bytes : Option (List ℕ)) (before mid now : ℕ) (program : Program) (refused : ScriptRefused) → bytes ≡ told → before ≤ mid
+pub script_refused_before : (told bytes : Option (List ℕ)) (before mid now : ℕ) (program : Program)
+    (refused : ScriptRefused) → bytes ≡ told → before ≤ mid
     → IsWhyNoScript bytes mid now program refused → IsWhyNoScript told before now program refused
-script_refused_before told bytes before mid now program script.Fault same later why = rose_since before mid now later why
-script_refused_before told bytes before mid now program refused same later why = subst (λ b. IsWhyNoScript b mid now program refused) same why
+script_refused_before told bytes before mid now program script.Fault same later why =
+    rose_since before mid now later why
+script_refused_before told bytes before mid now program refused same later why =
+    subst (λ b. IsWhyNoScript b mid now program refused) same why
 
 -- ---- and it is what the bytes come to
 
 -- what a description comes to, where it is refused
-pub description_outcome : (P : Described → Status → Type 0) → P TooLong (status.TooLarge limit.Description)
-    → ((why : DescFault) → P (Faulty why) (status.BadDescription why)) → ((which : Limit) → P (Exceeds which) (status.TooLarge which))
-    → (text : List ℕ) (before now : ℕ) (refused : DescriptionRefused) → IsWhyNoDescription (Some text) before now refused → (Rose before now → ⊥)
-    → (description_status refused ≡ status.OutOfMemory) ⊎ ((d : Described) × IsDescribed text d × P d (description_status refused))
-description_outcome P long faulty exceeds text before now description.Fault why well = absurd (well why)
-description_outcome P long faulty exceeds text before now description.TooLong why well = inr (TooLong, why, long)
-description_outcome P long faulty exceeds text before now (description.Faulty fault) why well = inr (Faulty fault, why, faulty fault)
-description_outcome P long faulty exceeds text before now (description.Exceeds which) why well = inr (Exceeds which, why, exceeds which)
-description_outcome P long faulty exceeds text before now description.OutOfMemory why well = inl refl
+pub description_outcome : (P : Described → Status → Type 0)
+    → P TooLong (status.TooLarge limit.Description)
+    → ((why : DescFault) → P (Faulty why) (status.BadDescription why))
+    → ((which : Limit) → P (Exceeds which) (status.TooLarge which))
+    → (text : List ℕ) (before now : ℕ) (refused : DescriptionRefused)
+    → IsWhyNoDescription (Some text) before now refused → (Rose before now → ⊥)
+    → (description_status refused ≡ status.OutOfMemory) ⊎ ((d : Described) × IsDescribed text d
+    × P d (description_status refused))
+description_outcome P long faulty exceeds text before now description.Fault why well =
+    absurd (well why)
+description_outcome P long faulty exceeds text before now description.TooLong why well =
+    inr (TooLong, why, long)
+description_outcome P long faulty exceeds text before now (description.Faulty fault) why well =
+    inr (Faulty fault, why, faulty fault)
+description_outcome P long faulty exceeds text before now (description.Exceeds which) why well =
+    inr (Exceeds which, why, exceeds which)
+description_outcome P long faulty exceeds text before now description.OutOfMemory why well =
+    inl refl
 
 is_longer : (n : ℕ) → longest < n → ltb longest n ≡ true
 is_longer n more = grind (arith, nat_tests)
@@ -60,20 +82,29 @@ is_shorter : (n : ℕ) → n ≤ longest → ltb longest n ≡ false
 is_shorter n few = grind (arith, nat_tests)
 
 -- what a script comes to that is not too long
-pub short_outcome : (program : Program) (text : List ℕ) (given : Result Script StreamRefused) → length text ≤ longest → merged program text ≡ given
+pub short_outcome : (program : Program) (text : List ℕ) (given : Result Script StreamRefused)
+    → length text ≤ longest → merged program text ≡ given
     → script_outcome program text ≡ of_merged given
 short_outcome program text given short is =
-    ap (λ b. if b then status.TooLarge limit.Script else of_merged (merged program text)) (is_shorter (length text) short) ∙ ap of_merged is
+    ap (λ b. if b then status.TooLarge limit.Script else of_merged (merged program text))
+    (is_shorter (length text) short) ∙ ap of_merged is
 
 -- what a script comes to, where it is refused
-pub script_outcome_is : (program : Program) (text : List ℕ) (before now : ℕ) (refused : ScriptRefused) → IsWhyNoScript (Some text) before now program refused → (Rose before now → ⊥)
-    → (script_status refused ≡ status.OutOfMemory) ⊎ (script_status refused ≡ script_outcome program text)
+pub script_outcome_is : (program : Program) (text : List ℕ) (before now : ℕ)
+    (refused : ScriptRefused) → IsWhyNoScript (Some text) before now program refused
+    → (Rose before now → ⊥)
+    → (script_status refused ≡ status.OutOfMemory)
+    ⊎ (script_status refused ≡ script_outcome program text)
 script_outcome_is program text before now script.Fault why well = absurd (well why)
 script_outcome_is program text before now script.TooLong why well =
-    inr (sym (ap (λ b. if b then status.TooLarge limit.Script else of_merged (merged program text)) (is_longer (length text) why)))
-script_outcome_is program text before now (script.BadRecord number) why well = inr (sym (short_outcome program text _ why.0 why.1))
-script_outcome_is program text before now script.TooMany why well = inr (sym (short_outcome program text _ why.0 why.1))
+    inr (sym (ap (λ b. if b then status.TooLarge limit.Script else of_merged (merged program text))
+    (is_longer (length text) why)))
+script_outcome_is program text before now (script.BadRecord number) why well =
+    inr (sym (short_outcome program text _ why.0 why.1))
+script_outcome_is program text before now script.TooMany why well =
+    inr (sym (short_outcome program text _ why.0 why.1))
 script_outcome_is program text before now script.NotPlain why well =
     let given = why.1 in
-    inr (sym (short_outcome program text (Ok given.0) why.0 given.1 ∙ ap (λ b. status_of_plain b) given.2))
+    inr (sym (short_outcome program text (Ok given.0) why.0 given.1 ∙ ap (λ b. status_of_plain b)
+    given.2))
 script_outcome_is program text before now script.OutOfMemory why well = inl refl

@@ -11,7 +11,8 @@ use Rattle.rtec_main.specs.Described.{IsDescribed, Describes}
 use Rattle.rtec_main.specs.Script.{commands_of, IsPlainScript}
 use Rattle.rtec_main.specs.Report.{report_text}
 use Rattle.rtec_main.specs.GroundText.{ground_text}
-use Rattle.rtec_main.specs.Reads.{IsDescriptionOf, IsSoundDescription, IsWhyNoScript, IsScriptOf, script_status}
+use Rattle.rtec_main.specs.Reads.{IsDescriptionOf, IsSoundDescription, IsWhyNoScript, IsScriptOf}
+use Rattle.rtec_main.specs.Reads.{script_status}
 use Rattle.rtec_main.specs.Run.{World, Recognise, Runs, IsReport, IsGrounding}
 use Rattle.rtec_main.specs.Tasks.{Gives}
 use Rattle.rtec_main.proofs.Refusals.{script_says}
@@ -20,11 +21,14 @@ use Rattle.rtec_main.proofs.PlainScripts.{parts_plain}
 -- ---- the answers of `report_of` and `grounding_of`
 
 -- a description that was taken, where its bytes are told
-found_described : (bytes : Option (List ℕ)) (found : Description) → IfSome bytes (λ text. IsDescriptionOf text found)
-    → IfSome bytes (λ text. IsDescribed text (Describes (map plain found.syntax.statements) (plain_checked found.checked) found.layers.of_name))
+found_described : (bytes : Option (List ℕ)) (found : Description)
+    → IfSome bytes (λ text. IsDescriptionOf text found)
+    → IfSome bytes (λ text. IsDescribed text (Describes (map plain found.syntax.statements)
+    (plain_checked found.checked) found.layers.of_name))
 found_described bytes found is = IfSome_then bytes is (λ text of. of.described)
 
-runs_by : (world : World) (name : List ℕ) (found : Description) → IsSoundDescription found → IfSome (world.bytes name) (λ text. IsDescriptionOf text found)
+runs_by : (world : World) (name : List ℕ) (found : Description) → IsSoundDescription found
+    → IfSome (world.bytes name) (λ text. IsDescriptionOf text found)
     → Runs world name found.program
 runs_by world name found sound is = record {
   statements = map plain found.syntax.statements;
@@ -35,17 +39,22 @@ runs_by world name found sound is = record {
 }
 
 -- a refused script
-pub refused_script : (old new : World) (name script : List ℕ) (found : Description) → IsSoundDescription found → IfSome (old.bytes name) (λ text. IsDescriptionOf text found)
+pub refused_script : (old new : World) (name script : List ℕ) (found : Description)
+    → IsSoundDescription found → IfSome (old.bytes name) (λ text. IsDescriptionOf text found)
     → (refused : ScriptRefused)
     → IsWhyNoScript (old.bytes script) (old.faults script) (new.faults script) found.program refused
     → Gives old new (Recognise name script) (Err (script_status refused))
 refused_script old new name script found sound is refused why =
-    elim (script_says old new name script found.program (runs_by old name found sound is) refused why) [ inl e ↦ inl e | inr says ↦ inr (inr says) ]
+    elim (script_says old new name script found.program (runs_by old name found sound is) refused
+    why) [ inl e ↦ inl e | inr says ↦ inr (inr says) ]
 
 -- a report
-pub report_given : (old : World) (name script : List ℕ) (found : Description) → IsSoundDescription found → IfSome (old.bytes name) (λ text. IsDescriptionOf text found)
-    → (given : Script) → IfSome (old.bytes script) (λ text. IsScriptOf found.program text given) → IsPlainScript (commands_of given.commands)
-    → (text : List ℕ) → text ≡ report_text found.program (commands_of given.commands) given.ignored → IsReport old name script text
+pub report_given : (old : World) (name script : List ℕ) (found : Description)
+    → IsSoundDescription found → IfSome (old.bytes name) (λ text. IsDescriptionOf text found)
+    → (given : Script) → IfSome (old.bytes script) (λ text. IsScriptOf found.program text given)
+    → IsPlainScript (commands_of given.commands)
+    → (text : List ℕ) → text ≡ report_text found.program (commands_of given.commands) given.ignored
+    → IsReport old name script text
 report_given old name script found sound is given scripted parts text e = record {
   program = found.program;
   script = given;
@@ -56,8 +65,10 @@ report_given old name script found sound is given scripted parts text e = record
 }
 
 -- a ground text
-pub grounding_given : (old : World) (name : List ℕ) (found : Description) → IfSome (old.bytes name) (λ text. IsDescriptionOf text found)
-    → (text : List ℕ) → text ≡ ground_text (map plain found.syntax.statements) (plain_checked found.checked) found.layers.of_name → IsGrounding old name text
+pub grounding_given : (old : World) (name : List ℕ) (found : Description)
+    → IfSome (old.bytes name) (λ text. IsDescriptionOf text found)
+    → (text : List ℕ) → text ≡ ground_text (map plain found.syntax.statements)
+    (plain_checked found.checked) found.layers.of_name → IsGrounding old name text
 grounding_given old name found is text e = record {
   statements = map plain found.syntax.statements;
   checked = plain_checked found.checked;

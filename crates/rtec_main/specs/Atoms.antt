@@ -1,5 +1,6 @@
 -- The atoms of ground events and units, as they are printed: `near(v1,v2)`.
-use Rattle.std.specs.Prelude.{ℕ, List, [], ◌∷◌, ◌++◌, map, flat_map, zip, slice_get, slice_index_or, codes, Option, Some, None}
+use Rattle.std.specs.Prelude.{ℕ, List, [], ◌∷◌, ◌++◌, map, flat_map, zip, slice_get, slice_index_or}
+use Rattle.std.specs.Prelude.{codes, Option, Some, None}
 use Rattle.ground_types.specs.declared.program.Domain.{Domain}
 use Rattle.ground_types.specs.declared.program.Name.{Name}
 use Rattle.ground_types.specs.declared.program.Unit.{Unit}
@@ -18,7 +19,8 @@ entity_words domains places args = map (entity_word domains) (zip places args)
 -- a word and its arguments: `near(v1,v2)`, or the word alone
 abbrev pub atom_text : List ℕ → List (List ℕ) → List ℕ
 atom_text word [] = word
-atom_text word (arg ∷ args) = word ++ codes "(" ++ arg ++ flat_map (λ other. codes "," ++ other) args ++ codes ")"
+atom_text word (arg ∷ args) = word ++ codes "(" ++ arg ++ flat_map (λ other. codes "," ++ other)
+    args ++ codes ")"
 
 -- the atom of a name with these arguments
 abbrev pub atom_by : List Domain → Name → List ℕ → List ℕ

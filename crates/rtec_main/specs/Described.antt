@@ -14,8 +14,8 @@ use Rattle.ground_rules.specs.Limits.{exceeded}
 use Rattle.rtec_main.specs.declared.status.DescFault.{DescFault}
 use Rattle.rtec_main.specs.declared.status.DescFault.TheVariants as fault
 
--- It is longer than one may be, or faulty, or it exceeds a limit, or it has statements, which declare something, and layers of
--- the names that are declared.
+-- It is longer than one may be, or faulty, or it exceeds a limit, or it has statements, which
+-- declare something, and layers of the names that are declared.
 pub data Described : Type 0 where
   TooLong : Described
   Faulty : DescFault → Described
@@ -24,15 +24,18 @@ pub data Described : Type 0 where
 
 -- the text spells statements that a rule on plan, declarations and rules refuses
 abbrev pub IsRefused : List ℕ → DeclRefused → Type 0
-IsRefused text refusal = (statements : List PlainStatement) × (reading text ≡ Statements statements) × (checking statements ≡ Err refusal)
+IsRefused text refusal = (statements : List PlainStatement)
+    × (reading text ≡ Statements statements) × (checking statements ≡ Err refusal)
 
 -- the text spells statements, which declare this
 abbrev pub Declares : List ℕ → List PlainStatement → PlainChecked → Type 0
-Declares text statements checked = (reading text ≡ Statements statements) × (checking statements ≡ Ok checked)
+Declares text statements checked = (reading text ≡ Statements statements)
+    × (checking statements ≡ Ok checked)
 
 -- no name reaches itself, and these are the layers of the names
 abbrev pub HasLayers : PlainChecked → List ℕ → Type 0
-HasLayers checked of_name = NoneBefore checked.rules checked.names (length checked.names) × IsLayering checked.rules checked.names of_name
+HasLayers checked of_name = NoneBefore checked.rules checked.names (length checked.names)
+    × IsLayering checked.rules checked.names of_name
 
 abbrev pub IsFaulty : List ℕ → DescFault → Type 0
 IsFaulty text (fault.BadByte line) = reading text ≡ BadByte line
@@ -47,15 +50,18 @@ IsFaulty text (fault.Arity line) = IsRefused text (refused.Arity line)
 IsFaulty text (fault.Clash line) = IsRefused text (refused.Clash line)
 IsFaulty text (fault.Loose line) = IsRefused text (refused.Loose line)
 IsFaulty text (fault.Cyclic line) =
-    (statements : List PlainStatement) × (checked : PlainChecked) × (place : ℕ) × Declares text statements checked
+    (statements : List PlainStatement) × (checked : PlainChecked) × (place : ℕ)
+    × Declares text statements checked
     × IsFirstCycle checked.rules checked.names place line
 
--- Its statements are read, then checked; then the layers are looked for, and then the limits are tested.
+-- Its statements are read, then checked; then the layers are looked for, and then the limits are
+-- tested.
 abbrev pub IsDescribed : List ℕ → Described → Type 0
 IsDescribed text TooLong = reading text ≡ LongText
 IsDescribed text (Faulty why) = IsFaulty text why
 IsDescribed text (Exceeds limit) =
-    (statements : List PlainStatement) × (checked : PlainChecked) × (of_name : List ℕ) × Declares text statements checked
+    (statements : List PlainStatement) × (checked : PlainChecked) × (of_name : List ℕ)
+    × Declares text statements checked
     × HasLayers checked of_name × (exceeded checked ≡ Some limit)
 IsDescribed text (Describes statements checked of_name) =
     Declares text statements checked × HasLayers checked of_name × (exceeded checked ≡ None)

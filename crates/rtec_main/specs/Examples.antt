@@ -11,7 +11,9 @@ use Rattle.rule_read.specs.Bytes.{class_of}
 use Rattle.rule_read.specs.Tokens.{cut}
 use Rattle.rule_read.specs.Sentences.{sentences, first_bad}
 use Rattle.rule_read.specs.Words.{keyword_of}
-use Rattle.rule_read.specs.Reading.{bind, mapped, enclosed_at, row_at, args_at, decl_at, term_at, atom_at, fv_at, event_at, condition_at, unequal_at, body_at, number_at, valued_at, conditions_at, rule_at, form_at, form_of}
+use Rattle.rule_read.specs.Reading.{bind, mapped, enclosed_at, row_at, args_at, decl_at, term_at}
+use Rattle.rule_read.specs.Reading.{atom_at, fv_at, event_at, condition_at, unequal_at, body_at}
+use Rattle.rule_read.specs.Reading.{number_at, valued_at, conditions_at, rule_at, form_at, form_of}
 use Rattle.rule_read.specs.Whole.{forms_of}
 use Rattle.rtec_main.specs.declared.status.DescFault.TheVariants as fault
 use Rattle.rtec_main.specs.Script.{is_plain}
@@ -20,21 +22,34 @@ use Rattle.rtec_main.specs.Report.{text_of_lines, report_text}
 abbrev lamp_text : List ℕ
 lamp_text =
     text_of_lines
-    (codes "window(10)." ∷ codes "step(5)." ∷ codes "from(0)." ∷ codes "input up." ∷ codes "input down." ∷ codes "simple on [true]."
-    ∷ codes "initiatedAt(on=true) :- happensAt(up)." ∷ codes "terminatedAt(on=true) :- happensAt(down)." ∷ [])
+    (codes "window(10)." ∷ codes "step(5)." ∷ codes "from(0)." ∷ codes "input up."
+    ∷ codes "input down." ∷ codes "simple on [true]."
+    ∷ codes "initiatedAt(on=true) :- happensAt(up)."
+    ∷ codes "terminatedAt(on=true) :- happensAt(down)." ∷ [])
 
 -- a byte that is not permitted, a statement without its dot, and no plan
 lamp_faulty : IsFaulty (codes "input up;") (fault.BadByte 1)
-unfolding cut class_of sentences first_bad keyword_of bind mapped enclosed_at row_at args_at decl_at term_at atom_at fv_at event_at condition_at unequal_at body_at number_at valued_at conditions_at rule_at form_at form_of forms_of
+unfolding cut class_of sentences first_bad keyword_of bind mapped enclosed_at row_at args_at
+    decl_at term_at atom_at fv_at event_at condition_at unequal_at body_at number_at valued_at
+    conditions_at rule_at form_at form_of forms_of
 lamp_faulty = refl
 
 lamp_unformed : IsFaulty (codes "input up") (fault.BadStatement 1)
-unfolding cut class_of sentences first_bad keyword_of bind mapped enclosed_at row_at args_at decl_at term_at atom_at fv_at event_at condition_at unequal_at body_at number_at valued_at conditions_at rule_at form_at form_of forms_of
+unfolding cut class_of sentences first_bad keyword_of bind mapped enclosed_at row_at args_at
+    decl_at term_at atom_at fv_at event_at condition_at unequal_at body_at number_at valued_at
+    conditions_at rule_at form_at form_of forms_of
 lamp_unformed = refl
 
 lamp_without_plan : IsFaulty (codes "input up.") fault.BadPlan
-unfolding cut class_of sentences first_bad keyword_of bind mapped enclosed_at row_at args_at decl_at term_at atom_at fv_at event_at condition_at unequal_at body_at number_at valued_at conditions_at rule_at form_at form_of forms_of
-lamp_without_plan = (record { line = 1; form = Input (record { name = codes "up"; args = [] }) } ∷ [], refl, refl)
+unfolding cut class_of sentences first_bad keyword_of bind mapped enclosed_at row_at args_at
+    decl_at term_at atom_at fv_at event_at condition_at unequal_at body_at number_at valued_at
+    conditions_at rule_at form_at form_of forms_of
+lamp_without_plan = (
+  record { line = 1; form = Input (record { name = codes "up"; args = [] }) }
+      ∷ [],
+  refl,
+  refl,
+)
 
 abbrev first_commands : List Command
 first_commands = Feed 1 Add 0 3 ∷ Feed 1 Add 1 7 ∷ Feed 1 Add 0 9 ∷ Seal ∷ []
@@ -45,8 +60,10 @@ it_is_plain = refl
 first_report : report_text lamp first_commands 0
     ≡ text_of_lines
     (codes "1 add up 3 admitted" ∷ codes "1 add down 7 admitted" ∷ codes "1 add up 9 admitted"
-    ∷ codes "query 0 window (0,10] evaluations 3" ∷ codes "  on=true (3,7] (9,open)" ∷ codes "ignored 0"
-    ∷ codes "entries 3 admitted 3 delayed 0 already 0 revoked 0 delayed-revoked 0 unknown 0 forgotten 0"
+    ∷ codes "query 0 window (0,10] evaluations 3" ∷ codes "  on=true (3,7] (9,open)"
+    ∷ codes "ignored 0"
+    ∷ codes
+    "entries 3 admitted 3 delayed 0 already 0 revoked 0 delayed-revoked 0 unknown 0 forgotten 0"
     ∷ codes "queries 1 spans 2 points 0 evaluations 3" ∷ [])
 unfolding digits
 first_report = refl
@@ -54,7 +71,8 @@ first_report = refl
 empty_report : report_text lamp (Seal ∷ []) 0
     ≡ text_of_lines
     (codes "query 0 window (0,10] evaluations 0" ∷ codes "ignored 0"
-    ∷ codes "entries 0 admitted 0 delayed 0 already 0 revoked 0 delayed-revoked 0 unknown 0 forgotten 0"
+    ∷ codes
+    "entries 0 admitted 0 delayed 0 already 0 revoked 0 delayed-revoked 0 unknown 0 forgotten 0"
     ∷ codes "queries 1 spans 0 points 0 evaluations 0" ∷ [])
 unfolding digits
 empty_report = refl

@@ -1,5 +1,5 @@
--- Evidence that the ground text is what is meant: descriptions, what they declare and their ground text, written by hand. Each
--- equation holds by computation alone.
+-- Evidence that the ground text is what is meant: descriptions, what they declare and their ground
+-- text, written by hand. Each equation holds by computation alone.
 use Rattle.std.specs.Prelude.{◌≡◌, ℕ, true, List, [], ◌∷◌, codes, Ok, refl}
 use Rattle.std.specs.Fmt.{digits}
 use Rattle.ground_types.specs.declared.plan.Plan.{Plan}
@@ -12,7 +12,9 @@ use Rattle.rule_read.specs.declared.form.EventText.TheVariants as event
 use Rattle.rule_read.specs.declared.form.Body.{Body}
 use Rattle.rule_read.specs.declared.form.Body.TheVariants as body
 use Rattle.rule_read.specs.Canonical.{line_of}
-use Rattle.rule_read.specs.Forms.{PlainForm, PlainStatement, Value_of, Union_of, none, more, Window, Step, From, Domain, Input, Simple, Static, Initially, Initiated, Terminated, HoldsFor}
+use Rattle.rule_read.specs.Forms.{PlainForm, PlainStatement, Value_of, Union_of, none, more, Window}
+use Rattle.rule_read.specs.Forms.{Step, From, Domain, Input, Simple, Static, Initially, Initiated}
+use Rattle.rule_read.specs.Forms.{Terminated, HoldsFor}
 use Rattle.domain_decl.specs.Accepted.{PlainChecked, checking}
 use Rattle.rtec_main.specs.GroundText.{ground_text}
 use Rattle.rtec_main.specs.Report.{text_of_lines}
@@ -55,9 +57,30 @@ lamp_checked = record {
   plan = plan;
   domains = [];
   names =
-      record { word = codes "up"; kind = name_kind.Input; args = []; values = []; first = 0; line = 4 }
-      ∷ record { word = codes "down"; kind = name_kind.Input; args = []; values = []; first = 0; line = 5 }
-      ∷ record { word = codes "on"; kind = name_kind.Simple; args = []; values = codes "true" ∷ []; first = 0; line = 6 }
+      record {
+        word = codes "up";
+        kind = name_kind.Input;
+        args = [];
+        values = [];
+        first = 0;
+        line = 4;
+      }
+      ∷ record {
+        word = codes "down";
+        kind = name_kind.Input;
+        args = [];
+        values = [];
+        first = 0;
+        line = 5;
+      }
+      ∷ record {
+        word = codes "on";
+        kind = name_kind.Simple;
+        args = [];
+        values = codes "true" ∷ [];
+        first = 0;
+        line = 6;
+      }
       ∷ [];
   rules =
       on_line 7 (Initiated on (happens (codes "up") [] ∷ []))
@@ -70,9 +93,12 @@ lamp_declares = refl
 
 lamp_is : ground_text lamp lamp_checked (0 ∷ 0 ∷ 1 ∷ [])
     ≡ text_of_lines
-    (codes "window(10)." ∷ codes "step(5)." ∷ codes "from(0)." ∷ codes "input up." ∷ codes "input down." ∷ codes "simple on [true]."
-    ∷ codes "initiatedAt(on=true) :- happensAt(up)." ∷ codes "terminatedAt(on=true) :- happensAt(down)."
-    ∷ codes "events 2 units 1 rules 2 layers 1" ∷ codes "layer 1 on" ∷ codes "  initiatedAt(on=true) :- happensAt(up)."
+    (codes "window(10)." ∷ codes "step(5)." ∷ codes "from(0)." ∷ codes "input up."
+    ∷ codes "input down." ∷ codes "simple on [true]."
+    ∷ codes "initiatedAt(on=true) :- happensAt(up)."
+    ∷ codes "terminatedAt(on=true) :- happensAt(down)."
+    ∷ codes "events 2 units 1 rules 2 layers 1" ∷ codes "layer 1 on"
+    ∷ codes "  initiatedAt(on=true) :- happensAt(up)."
     ∷ codes "  terminatedAt(on=true) :- happensAt(down)." ∷ [])
 unfolding line_of digits
 lamp_is = refl
@@ -83,7 +109,8 @@ abbrev met : Fv
 met = fluent (codes "met") (variable (codes "X") ∷ variable (codes "Y") ∷ []) (codes "true")
 
 abbrev meeting_rule : PlainStatement
-meeting_rule = on_line 6 (Initiated met (happens (codes "near") (variable (codes "X") ∷ variable (codes "Y") ∷ []) ∷ body.Unequal (codes "X") (codes "Y") ∷ []))
+meeting_rule = on_line 6 (Initiated met (happens (codes "near") (variable (codes "X") ∷ variable
+    (codes "Y") ∷ []) ∷ body.Unequal (codes "X") (codes "Y") ∷ []))
 
 abbrev meeting : List PlainStatement
 meeting =
@@ -99,8 +126,23 @@ meeting_checked = record {
   plan = plan;
   domains = record { word = codes "v"; entities = codes "x" ∷ [] } ∷ [];
   names =
-      record { word = codes "near"; kind = name_kind.Input; args = 0 ∷ 0 ∷ []; values = []; first = 0; line = 4 }
-      ∷ record { word = codes "met"; kind = name_kind.Simple; args = 0 ∷ 0 ∷ []; values = codes "true" ∷ []; first = 0; line = 5 }
+      record {
+        word = codes "near";
+        kind = name_kind.Input;
+        args = 0 ∷ 0 ∷ [];
+        values = [];
+        first = 0;
+        line = 4;
+      }
+      ∷ record {
+        word = codes "met";
+        kind = name_kind.Simple;
+        args = 0 ∷ 0 ∷ [];
+        values =
+            codes "true" ∷ [];
+        first = 0;
+        line = 5;
+      }
       ∷ [];
   rules = meeting_rule ∷ [];
 }
@@ -110,7 +152,8 @@ meeting_declares = refl
 
 meeting_is : ground_text meeting meeting_checked (0 ∷ 1 ∷ [])
     ≡ text_of_lines
-    (codes "window(10)." ∷ codes "step(5)." ∷ codes "domain v [x]." ∷ codes "input near(v, v)." ∷ codes "simple met(v, v) [true]."
+    (codes "window(10)." ∷ codes "step(5)." ∷ codes "domain v [x]." ∷ codes "input near(v, v)."
+    ∷ codes "simple met(v, v) [true]."
     ∷ codes "initiatedAt(met(X, Y)=true) :- happensAt(near(X, Y)), X \\= Y."
     ∷ codes "events 1 units 1 rules 0 layers 1" ∷ codes "layer 1 met(x,x)" ∷ [])
 unfolding line_of digits
@@ -124,10 +167,12 @@ seen value = fluent (codes "seen") (variable (codes "X") ∷ []) value
 abbrev seeing_rules : List PlainStatement
 seeing_rules =
     on_line 7 (HoldsFor (fluent (codes "found") [] (codes "true"))
-    (Union_of (more (Value_of (fluent (codes "seen") (term.Entity (codes "y") ∷ []) (codes "yes"))) none)))
+    (Union_of (more (Value_of (fluent (codes "seen") (term.Entity (codes "y") ∷ []) (codes "yes")))
+    none)))
     ∷ on_line 8 (Initially (seen (codes "no")))
     ∷ on_line 9 (Initially (fluent (codes "seen") (term.Entity (codes "x") ∷ []) (codes "yes")))
-    ∷ on_line 10 (Initiated (seen (codes "yes")) (happens (codes "sight") (variable (codes "X") ∷ []) ∷ []))
+    ∷ on_line 10 (Initiated (seen (codes "yes")) (happens (codes "sight") (variable (codes "X")
+    ∷ []) ∷ []))
     ∷ []
 
 abbrev seeing : List PlainStatement
@@ -144,9 +189,32 @@ seeing_checked = record {
   plan = plan;
   domains = record { word = codes "v"; entities = codes "x" ∷ codes "y" ∷ [] } ∷ [];
   names =
-      record { word = codes "found"; kind = name_kind.Static; args = []; values = codes "true" ∷ []; first = 0; line = 4 }
-      ∷ record { word = codes "seen"; kind = name_kind.Simple; args = 0 ∷ []; values = codes "yes" ∷ codes "no" ∷ []; first = 0; line = 5 }
-      ∷ record { word = codes "sight"; kind = name_kind.Input; args = 0 ∷ []; values = []; first = 0; line = 6 }
+      record {
+        word = codes "found";
+        kind = name_kind.Static;
+        args = [];
+        values =
+            codes "true" ∷ [];
+        first = 0;
+        line = 4;
+      }
+      ∷ record {
+        word = codes "seen";
+        kind = name_kind.Simple;
+        args = 0 ∷ [];
+        values =
+            codes "yes" ∷ codes "no" ∷ [];
+        first = 0;
+        line = 5;
+      }
+      ∷ record {
+        word = codes "sight";
+        kind = name_kind.Input;
+        args = 0 ∷ [];
+        values = [];
+        first = 0;
+        line = 6;
+      }
       ∷ [];
   rules = seeing_rules;
 }
@@ -156,12 +224,16 @@ seeing_declares = refl
 
 seeing_is : ground_text seeing seeing_checked (2 ∷ 1 ∷ 0 ∷ [])
     ≡ text_of_lines
-    (codes "window(10)." ∷ codes "step(5)." ∷ codes "domain v [x, y]." ∷ codes "static found [true]." ∷ codes "simple seen(v) [yes, no]."
-    ∷ codes "input sight(v)." ∷ codes "holdsFor(found=true) :- union_all([seen(y)=yes])." ∷ codes "initially(seen(X)=no)."
+    (codes "window(10)." ∷ codes "step(5)." ∷ codes "domain v [x, y]."
+    ∷ codes "static found [true]." ∷ codes "simple seen(v) [yes, no]."
+    ∷ codes "input sight(v)." ∷ codes "holdsFor(found=true) :- union_all([seen(y)=yes])."
+    ∷ codes "initially(seen(X)=no)."
     ∷ codes "initially(seen(x)=yes)." ∷ codes "initiatedAt(seen(X)=yes) :- happensAt(sight(X))."
     ∷ codes "events 2 units 3 rules 3 layers 2"
-    ∷ codes "layer 1 seen(x)" ∷ codes "  initially(seen(x)=yes)." ∷ codes "  initiatedAt(seen(x)=yes) :- happensAt(sight(x))."
-    ∷ codes "layer 1 seen(y)" ∷ codes "  initially(seen(y)=no)." ∷ codes "  initiatedAt(seen(y)=yes) :- happensAt(sight(y))."
+    ∷ codes "layer 1 seen(x)" ∷ codes "  initially(seen(x)=yes)."
+    ∷ codes "  initiatedAt(seen(x)=yes) :- happensAt(sight(x))."
+    ∷ codes "layer 1 seen(y)" ∷ codes "  initially(seen(y)=no)."
+    ∷ codes "  initiatedAt(seen(y)=yes) :- happensAt(sight(y))."
     ∷ codes "layer 2 found" ∷ codes "  holdsFor(found=true) :- union_all([seen(y)=yes])." ∷ [])
 unfolding line_of digits
 seeing_is = refl

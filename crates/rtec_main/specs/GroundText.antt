@@ -1,5 +1,6 @@
 -- *Ground text*: a description, and what defines each of its units once its variables are gone.
-use Rattle.std.specs.Prelude.{ℕ, List, [], ◌++◌, map, flat_map, slice_get, slice_index_or, codes, decimal, Option, Some, None, if◌then◌else◌}
+use Rattle.std.specs.Prelude.{ℕ, List, [], ◌++◌, map, flat_map, slice_get, slice_index_or, codes}
+use Rattle.std.specs.Prelude.{decimal, Option, Some, None, if◌then◌else◌}
 use Rattle.std.specs.List.{enumerate_from}
 use Rattle.ground_types.specs.declared.program.Domain.{Domain}
 use Rattle.ground_types.specs.declared.program.Name.{Name}
@@ -9,7 +10,8 @@ use Rattle.rule_read.specs.Forms.{PlainForm, PlainStatement, Initially, form_tok
 use Rattle.rule_read.specs.Canonical.{line_of, text_of}
 use Rattle.domain_decl.specs.Accepted.{PlainChecked}
 use Rattle.ground_rules.specs.Assignments.{Instance, instances}
-use Rattle.ground_rules.specs.Grounded.{PlainKind, Simple_is, PlainUnit, PlainProgram, instances_at, greatest_layer, event_count, clauses, grounded}
+use Rattle.ground_rules.specs.Grounded.{PlainKind, Simple_is, PlainUnit, PlainProgram, instances_at}
+use Rattle.ground_rules.specs.Grounded.{greatest_layer, event_count, clauses, grounded}
 use Rattle.ground_rules.specs.Limits.{unit_count, counts_as_rule, rule_count}
 use Rattle.ground_rules.specs.Stated.{stated}
 use Rattle.rtec_main.specs.Atoms.{entity_words, named_atom}
@@ -21,7 +23,8 @@ inner_line form = codes "  " ++ line_of (form_tokens form)
 -- `events 2 units 1 rules 2 layers 1`
 abbrev pub counts_text : ℕ → ℕ → ℕ → ℕ → List ℕ
 counts_text events units rules layers =
-    codes "events " ++ decimal events ++ codes " units " ++ decimal units ++ codes " rules " ++ decimal rules
+    codes "events " ++ decimal events ++ codes " units " ++ decimal units ++ codes " rules "
+    ++ decimal rules
     ++ codes " layers " ++ decimal layers ++ codes "\n"
 
 -- a value of a ground fluent
@@ -33,7 +36,8 @@ ground_fv domains name args v = record {
 
 -- `  initially(on=true).`, where a unit has an initial value
 abbrev pub initially_text : List Domain → Option Name → List ℕ → PlainKind → List ℕ
-initially_text domains (Some name) args (Simple_is (Some v) initiate terminate) = inner_line (Initially (ground_fv domains name args v))
+initially_text domains (Some name) args (Simple_is (Some v) initiate terminate) =
+    inner_line (Initially (ground_fv domains name args v))
 initially_text domains name args kind = []
 
 -- the line of an instance of a rule or of a holdsFor statement
@@ -43,7 +47,8 @@ instance_text i = if counts_as_rule i.clause.form then inner_line (stated i) els
 -- the lines of a unit of a layer, with the instances that have it as head
 abbrev pub unit_text : List Domain → List Name → ℕ → PlainUnit → List Instance → List ℕ
 unit_text domains names layer unit mine =
-    codes "layer " ++ decimal layer ++ codes " " ++ named_atom domains (slice_get names unit.name) unit.args ++ codes "\n"
+    codes "layer " ++ decimal layer ++ codes " " ++ named_atom domains (slice_get names unit.name)
+    unit.args ++ codes "\n"
     ++ initially_text domains (slice_get names unit.name) unit.args unit.kind
     ++ flat_map instance_text mine
 
@@ -55,7 +60,8 @@ numbered_text domains names layer (Some unit) mine = unit_text domains names lay
 -- the units of a layer, in order
 abbrev pub layer_text : PlainProgram → List Instance → ℕ × List ℕ → List ℕ
 layer_text program all layer =
-    flat_map (λ unit. numbered_text program.domains program.names layer.0 (slice_get program.units unit) (instances_at unit all)) layer.1
+    flat_map (λ unit. numbered_text program.domains program.names layer.0
+    (slice_get program.units unit) (instances_at unit all)) layer.1
 
 -- all layers, from layer 1 on
 abbrev pub layers_text : PlainProgram → List Instance → List ℕ
@@ -65,6 +71,7 @@ layers_text program all = flat_map (layer_text program all) (enumerate_from 1 pr
 abbrev pub ground_text : List PlainStatement → PlainChecked → List ℕ → List ℕ
 ground_text statements checked of_name =
     text_of (map (λ s. s.form) statements)
-    ++ counts_text (event_count checked.domains checked.names) (unit_count checked.domains checked.names) (rule_count (clauses checked))
+    ++ counts_text (event_count checked.domains checked.names) (unit_count checked.domains
+    checked.names) (rule_count (clauses checked))
     (greatest_layer of_name)
     ++ layers_text (grounded checked of_name) (flat_map instances (clauses checked))

@@ -1,5 +1,7 @@
--- What reading a whole input answers, and what is known of a description and a script that were read.
-use Rattle.std.specs.Prelude.{◌≡◌, ◌<◌, ◌≤◌, ℕ, Bool, true, false, List, ◌++◌, length, map, take, drop, IfSome, Option, None, Result, Ok, Err, Vec}
+-- What reading a whole input answers, and what is known of a description and a script that were
+-- read.
+use Rattle.std.specs.Prelude.{◌≡◌, ◌<◌, ◌≤◌, ℕ, Bool, true, false, List, ◌++◌, length, map, take}
+use Rattle.std.specs.Prelude.{drop, IfSome, Option, None, Result, Ok, Err, Vec}
 use Rattle.std.specs.declared.alloc.Global.{Global}
 use Rattle.rt_base.specs.Outside.{Rose}
 use Rattle.rt_base.specs.declared.limit.Limit.{Limit}
@@ -22,7 +24,8 @@ use Rattle.ground_rules.specs.declared.refused.GroundRefused.TheVariants as grou
 use Rattle.stream_read.specs.declared.script.Script.{Script}
 use Rattle.stream_read.specs.declared.script.StreamRefused.{StreamRefused}
 use Rattle.stream_read.specs.declared.script.StreamRefused.TheVariants as stream
-use Rattle.rtec_main.specs.Described.{IsDescribed, TooLong as TooLongText, Faulty, Exceeds, Describes, IsProgramOf}
+use Rattle.rtec_main.specs.Described.{IsDescribed, TooLong as TooLongText, Faulty, Exceeds}
+use Rattle.rtec_main.specs.Described.{Describes, IsProgramOf}
 use Rattle.rtec_main.specs.Script.{longest, merged, commands_of, is_plain}
 use Rattle.rtec_main.specs.declared.reads.Unread.{Unread}
 use Rattle.rtec_main.specs.declared.reads.Unread.TheVariants.{Fault, TooLong, OutOfMemory}
@@ -36,7 +39,8 @@ use Rattle.rtec_main.specs.declared.status.ScriptFault.TheVariants as script_fau
 use Rattle.rtec_main.specs.declared.status.Status.{Status}
 use Rattle.rtec_main.specs.declared.status.Status.TheVariants as status
 
--- all bytes, or why not: the count of faults rose, there are more bytes than the limit, or memory ran out
+-- all bytes, or why not: the count of faults rose, there are more bytes than the limit, or memory
+-- ran out
 abbrev pub Reads : Option (List ℕ) → ℕ → ℕ → ℕ → Result (Vec ℕ Global) Unread → Type 0
 Reads bytes limit before now (Ok text) = IfSome bytes (λ all. text.items ≡ all)
 Reads bytes limit before now (Err Fault) = Rose before now
@@ -58,7 +62,8 @@ IsFaultOnlyIf P OutOfMemory = Unit {0}
 
 -- the bytes are a description with these statements, declarations, layers and this program
 pub record IsDescriptionOf (text : List ℕ) (found : Description) : Type 0 where
-  pub described : IsDescribed text (Describes (map plain found.syntax.statements) (plain_checked found.checked) found.layers.of_name)
+  pub described : IsDescribed text (Describes (map plain found.syntax.statements)
+      (plain_checked found.checked) found.layers.of_name)
   pub program : IsProgramOf (plain_checked found.checked) found.layers.of_name found.program
 
 -- what is known of it, whether its bytes are told or not
@@ -77,10 +82,12 @@ IsDescriptionRefused text (description.Faulty why) = IsDescribed text (Faulty wh
 IsDescriptionRefused text (description.Exceeds which) = IsDescribed text (Exceeds which)
 IsDescriptionRefused text description.OutOfMemory = Unit {0}
 
--- Why a description was not taken: the count of its faults rose, its bytes are refused where they are told, or memory ran out.
+-- Why a description was not taken: the count of its faults rose, its bytes are refused where they
+-- are told, or memory ran out.
 abbrev pub IsWhyNoDescription : Option (List ℕ) → ℕ → ℕ → DescriptionRefused → Type 0
 IsWhyNoDescription bytes before now description.Fault = Rose before now
-IsWhyNoDescription bytes before now refused = IfSome bytes (λ text. IsDescriptionRefused text refused)
+IsWhyNoDescription bytes before now refused =
+    IfSome bytes (λ text. IsDescriptionRefused text refused)
 
 -- one of the limits on what a description comes to
 abbrev pub is_described_limit : Limit → Bool
@@ -147,16 +154,20 @@ pub record IsScriptOf (program : Program) (text : List ℕ) (found : Script) : T
 abbrev pub IsScriptRefused : Program → List ℕ → ScriptRefused → Type 0
 IsScriptRefused program text script.Fault = ⊥
 IsScriptRefused program text script.TooLong = longest < length text
-IsScriptRefused program text (script.BadRecord number) = (length text ≤ longest) × (merged program text ≡ Err (stream.BadRecord number))
-IsScriptRefused program text script.TooMany = (length text ≤ longest) × (merged program text ≡ Err stream.TooMany)
+IsScriptRefused program text (script.BadRecord number) = (length text ≤ longest)
+    × (merged program text ≡ Err (stream.BadRecord number))
+IsScriptRefused program text script.TooMany = (length text ≤ longest)
+    × (merged program text ≡ Err stream.TooMany)
 IsScriptRefused program text script.NotPlain =
-    (length text ≤ longest) × ((given : Script) × (merged program text ≡ Ok given) × (is_plain (commands_of given.commands) ≡ false))
+    (length text ≤ longest) × ((given : Script) × (merged program text ≡ Ok given)
+    × (is_plain (commands_of given.commands) ≡ false))
 IsScriptRefused program text script.OutOfMemory = Unit {0}
 
 -- Why a script was not taken.
 abbrev pub IsWhyNoScript : Option (List ℕ) → ℕ → ℕ → Program → ScriptRefused → Type 0
 IsWhyNoScript bytes before now program script.Fault = Rose before now
-IsWhyNoScript bytes before now program refused = IfSome bytes (λ text. IsScriptRefused program text refused)
+IsWhyNoScript bytes before now program refused =
+    IfSome bytes (λ text. IsScriptRefused program text refused)
 
 -- the status of a refusal of the script
 abbrev pub script_status : ScriptRefused → Status

@@ -1,5 +1,8 @@
--- *Report text*: what is printed for a list of commands, line by line. It knows nothing of how the lines are made.
-use Rattle.std.specs.Prelude.{ℕ, nat_lt, Bool, true, false, not, ◌==◌, if◌then◌else◌, List, [], ◌∷◌, ◌++◌, length, flat_map, fold, slice_get, sum_by, count_by, codes, decimal, Option, Some, None}
+-- *Report text*: what is printed for a list of commands, line by line. It knows nothing of how the
+-- lines are made.
+use Rattle.std.specs.Prelude.{ℕ, nat_lt, Bool, true, false, not, ◌==◌, if◌then◌else◌, List, [], ◌∷◌}
+use Rattle.std.specs.Prelude.{◌++◌, length, flat_map, fold, slice_get, sum_by, count_by, codes}
+use Rattle.std.specs.Prelude.{decimal, Option, Some, None}
 use Rattle.std.specs.List.{range_with_len, zip}
 use Rattle.ground_types.specs.Windows.{left, right}
 use Rattle.ground_types.specs.History.{reply_to, seals, is_seal}
@@ -9,7 +12,9 @@ use Rattle.ground_types.specs.declared.plan.Plan.{Plan}
 use Rattle.ground_types.specs.declared.entries.Act.{Act}
 use Rattle.ground_types.specs.declared.entries.Act.TheVariants.{Add, Revoke}
 use Rattle.ground_types.specs.declared.entries.Reply.{Reply}
-use Rattle.ground_types.specs.declared.entries.Reply.TheVariants.{Admitted, Delayed, Already, Revoked, DelayedRevoked, Unknown, Forgotten}
+use Rattle.ground_types.specs.declared.entries.Reply.TheVariants.{Admitted, Delayed, Already}
+use Rattle.ground_types.specs.declared.entries.Reply.TheVariants.{Revoked, DelayedRevoked, Unknown}
+use Rattle.ground_types.specs.declared.entries.Reply.TheVariants.{Forgotten}
 use Rattle.ground_types.specs.declared.entries.Entry.{Entry}
 use Rattle.ground_types.specs.declared.entries.Entry.TheVariants.{Fed, Seal}
 use Rattle.ground_types.specs.declared.entries.Command.{Command}
@@ -19,19 +24,22 @@ use Rattle.ground_types.specs.declared.program.Unit.{Unit}
 use Rattle.ground_types.specs.declared.program.Program.{Program}
 use Rattle.rtec_main.specs.Atoms.{event_atom, unit_atom}
 
--- the entry of a command after a history: a feed gets its reply, a seal its number, and other commands make none
+-- the entry of a command after a history: a feed gets its reply, a seal its number, and other
+-- commands make none
 abbrev pub entries_of : Plan → List Entry → Command → List Entry
-entries_of plan before (command.Feed feeder act event at) = Fed feeder act event at (reply_to plan before act event at) ∷ []
+entries_of plan before (command.Feed feeder act event at) =
+    Fed feeder act event at (reply_to plan before act event at) ∷ []
 entries_of plan before command.Seal = Seal (seals before) ∷ []
 entries_of plan before (command.Ask query) = []
 entries_of plan before (command.Wait count) = []
 entries_of plan before (command.After feeder count) = []
 
 abbrev pub history_after : Plan → List Entry → List Command → List Entry
-history_after plan before commands = fold (λ history command. history ++ entries_of plan history command) before commands
+history_after plan before commands = fold (λ history command. history ++ entries_of plan history
+    command) before commands
 
--- the history whose feeds and seals are those of the commands, each with its reply or number; it is legal where there are at most
--- as many seals as queries
+-- the history whose feeds and seals are those of the commands, each with its reply or number; it is
+-- legal where there are at most as many seals as queries
 abbrev pub history_of : Plan → List Command → List Entry
 history_of plan commands = history_after plan [] commands
 
@@ -55,15 +63,18 @@ reply_word Forgotten = codes "forgotten"
 -- `1 add up 3 admitted`
 abbrev pub entry_line : Program → ℕ → Act → ℕ → ℕ → Reply → List ℕ
 entry_line program feeder act event at reply =
-    decimal feeder ++ codes " " ++ act_word act ++ codes " " ++ event_atom program event ++ codes " " ++ decimal at ++ codes " " ++ reply_word reply
+    decimal feeder ++ codes " " ++ act_word act ++ codes " " ++ event_atom program event ++ codes
+    " " ++ decimal at ++ codes " " ++ reply_word reply
 
 -- ` (3,7]`; a span that ends after the window is open
 abbrev pub span_text : ℕ → ℕ × ℕ → List ℕ
-span_text q span = codes " (" ++ decimal span.0 ++ codes "," ++ (if nat_lt q span.1 then codes "open)" else (decimal span.1 ++ codes "]"))
+span_text q span = codes " (" ++ decimal span.0 ++ codes "," ++ (if nat_lt q span.1
+    then codes "open)" else (decimal span.1 ++ codes "]"))
 
 -- `  on=true (3,7] (9,open)`
 abbrev pub fluent_line : ℕ → List ℕ → List ℕ → List (ℕ × ℕ) → List ℕ
-fluent_line q atom value spans = codes "  " ++ atom ++ codes "=" ++ value ++ flat_map (span_text q) spans
+fluent_line q atom value spans = codes "  " ++ atom ++ codes "=" ++ value ++ flat_map (span_text q)
+    spans
 
 -- a line for a row that is not empty
 abbrev pub fluent_lines : ℕ → List ℕ → List ℕ × List (ℕ × ℕ) → List (List ℕ)
@@ -75,16 +86,20 @@ event_line atom points = codes "  " ++ atom ++ flat_map (λ t. codes " " ++ deci
 
 abbrev pub unit_lines : Program → ℕ → Unit → PublishedRows → List (List ℕ)
 unit_lines program q unit (fluent_rows rows) =
-    flat_map (fluent_lines q (unit_atom program unit)) (zip (value_words (slice_get program.names unit.name)) rows)
-unit_lines program q unit (event_row points) = if length points == 0 then [] else (event_line (unit_atom program unit) points ∷ [])
+    flat_map (fluent_lines q (unit_atom program unit))
+    (zip (value_words (slice_get program.names unit.name)) rows)
+unit_lines program q unit (event_row points) = if length points == 0 then []
+    else (event_line (unit_atom program unit) points ∷ [])
 
 abbrev pub row_lines : Program → ℕ → List PublishedRows → List (List ℕ)
-row_lines program q rows = flat_map (λ unit. unit_lines program q unit.0 unit.1) (zip program.units rows)
+row_lines program q rows = flat_map (λ unit. unit_lines program q unit.0 unit.1)
+    (zip program.units rows)
 
 -- `query 0 window (0,10] evaluations 3`
 abbrev pub query_line : ℕ → ℕ → ℕ → ℕ → List ℕ
 query_line k w q count =
-    codes "query " ++ decimal k ++ codes " window (" ++ decimal w ++ codes "," ++ decimal q ++ codes "] evaluations " ++ decimal count
+    codes "query " ++ decimal k ++ codes " window (" ++ decimal w ++ codes "," ++ decimal q
+    ++ codes "] evaluations " ++ decimal count
 
 -- the block of a seal: the query, and its rows that are not empty
 abbrev pub block_lines : Program → List Entry → ℕ → List (List ℕ)
@@ -94,10 +109,12 @@ block_lines program history k =
 
 -- the lines of an entry that follows a history
 abbrev pub entry_lines : Program → List Entry → Entry → List (List ℕ)
-entry_lines program before (Fed feeder act event at reply) = entry_line program feeder act event at reply ∷ []
+entry_lines program before (Fed feeder act event at reply) = entry_line program feeder act event at
+    reply ∷ []
 entry_lines program before (Seal number) = block_lines program (before ++ Seal number ∷ []) number
 
--- the lines of commands that follow a history: for each feed its entry line, for each seal its block
+-- the lines of commands that follow a history: for each feed its entry line, for each seal its
+-- block
 abbrev pub command_lines : Program → List Entry → List Command → List (List ℕ)
 command_lines program before [] = []
 command_lines program before (command ∷ rest) =
@@ -120,7 +137,8 @@ has_reply wanted (Seal number) = false
 
 -- ` admitted 3`
 abbrev pub reply_count_text : List Entry → Reply → List ℕ
-reply_count_text history reply = codes " " ++ reply_word reply ++ codes " " ++ decimal (count_by (has_reply reply) history)
+reply_count_text history reply = codes " " ++ reply_word reply ++ codes " " ++ decimal
+    (count_by (has_reply reply) history)
 
 -- the replies in the order in which they are counted
 abbrev pub replies : List Reply
@@ -128,7 +146,8 @@ replies = Admitted ∷ Delayed ∷ Already ∷ Revoked ∷ DelayedRevoked ∷ Un
 
 abbrev pub entries_line : List Entry → List ℕ
 entries_line history =
-    codes "entries " ++ decimal (count_by (λ entry. not (is_seal entry)) history) ++ flat_map (reply_count_text history) replies
+    codes "entries " ++ decimal (count_by (λ entry. not (is_seal entry)) history) ++ flat_map
+    (reply_count_text history) replies
 
 abbrev pub span_count : PublishedRows → ℕ
 span_count (fluent_rows rows) = sum_by length rows
@@ -145,20 +164,24 @@ over_queries count history = sum_by count (range_with_len 0 (seals history))
 abbrev pub queries_line : Program → List Entry → List ℕ
 queries_line program history =
     codes "queries " ++ decimal (seals history)
-    ++ codes " spans " ++ decimal (over_queries (λ k. sum_by span_count (publication program history k).rows) history)
-    ++ codes " points " ++ decimal (over_queries (λ k. sum_by point_count (publication program history k).rows) history)
+    ++ codes " spans " ++ decimal (over_queries
+    (λ k. sum_by span_count (publication program history k).rows) history)
+    ++ codes " points " ++ decimal (over_queries
+    (λ k. sum_by point_count (publication program history k).rows) history)
     ++ codes " evaluations " ++ decimal (over_queries (evaluations program history) history)
 
 -- the three last lines
 abbrev pub end_lines : Program → List Entry → ℕ → List (List ℕ)
-end_lines program history ignored = (codes "ignored " ++ decimal ignored) ∷ entries_line history ∷ queries_line program history ∷ []
+end_lines program history ignored = (codes "ignored " ++ decimal ignored) ∷ entries_line history
+    ∷ queries_line program history ∷ []
 
 -- lines, each ended by a line feed
 abbrev pub text_of_lines : List (List ℕ) → List ℕ
 text_of_lines lines = flat_map (λ line. line ++ 10 ∷ []) lines
 
--- *Report text* of a list of commands without asks, with so many ignored records; the lines of asks come with the scripts that have
--- them
+-- *Report text* of a list of commands without asks, with so many ignored records; the lines of asks
+-- come with the scripts that have them
 abbrev pub report_text : Program → List Command → ℕ → List ℕ
 report_text program commands ignored =
-    text_of_lines (command_lines program [] commands ++ end_lines program (history_of program.plan commands) ignored)
+    text_of_lines (command_lines program [] commands ++ end_lines program
+    (history_of program.plan commands) ignored)

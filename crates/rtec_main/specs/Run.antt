@@ -1,5 +1,7 @@
 -- What a run ends with: one case for each status.
-use Rattle.std.specs.Prelude.{◌≡◌, ◌⊎◌, ◌≤◌, ◌<◌, ℕ, zero, suc, not, nat_lt, Bool, true, false, ◌&&◌, ◌==◌, if◌then◌else◌, List, [], ◌∷◌, length, take, codes, IfSome, Option, Some, None, Result, Ok, Err}
+use Rattle.std.specs.Prelude.{◌≡◌, ◌⊎◌, ◌≤◌, ◌<◌, ℕ, zero, suc, not, nat_lt, Bool, true, false}
+use Rattle.std.specs.Prelude.{◌&&◌, ◌==◌, if◌then◌else◌, List, [], ◌∷◌, length, take, codes, IfSome}
+use Rattle.std.specs.Prelude.{Option, Some, None, Result, Ok, Err}
 use Rattle.std.specs.Str.{bytes_eq}
 use Rattle.rt_base.specs.Outside.{Rose, with_bytes}
 use Rattle.rt_base.specs.declared.limit.Limit.TheVariants as limit
@@ -9,7 +11,8 @@ use Rattle.domain_decl.specs.Accepted.{PlainChecked}
 use Rattle.stream_read.specs.declared.script.Script.{Script}
 use Rattle.stream_read.specs.declared.script.StreamRefused.{StreamRefused}
 use Rattle.stream_read.specs.declared.script.StreamRefused.TheVariants as refused
-use Rattle.rtec_main.specs.Described.{Described, IsDescribed, TooLong, Faulty, Exceeds, Describes, IsProgramOf}
+use Rattle.rtec_main.specs.Described.{Described, IsDescribed, TooLong, Faulty, Exceeds, Describes}
+use Rattle.rtec_main.specs.Described.{IsProgramOf}
 use Rattle.rtec_main.specs.Script.{longest, merged, commands_of, is_plain}
 use Rattle.rtec_main.specs.Report.{report_text}
 use Rattle.rtec_main.specs.GroundText.{ground_text}
@@ -30,9 +33,11 @@ pub data Task : Type 0 where
 -- the task of the words, where they are of one of these forms
 abbrev pub task_of : List (List ℕ) → Option Task
 task_of (command ∷ description ∷ script ∷ []) =
-    if bytes_eq command (codes "recognise") && is_file description && is_file script then Some (Recognise description script) else None
+    if bytes_eq command (codes "recognise") && is_file description && is_file script
+    then Some (Recognise description script) else None
 task_of (command ∷ description ∷ []) =
-    if bytes_eq command (codes "ground") && is_file description then Some (Ground description) else None
+    if bytes_eq command (codes "ground") && is_file description then Some (Ground description)
+    else None
 task_of words = None
 
 -- what inputs tell and how often they failed, and what a sink took and how often it failed
@@ -53,12 +58,14 @@ pub record Runs (world : World) (description : List ℕ) (program : Program) : T
   pub statements : List PlainStatement
   pub checked : PlainChecked
   pub of_name : List ℕ
-  pub is_described : Told world description (λ text. IsDescribed text (Describes statements checked of_name))
+  pub is_described : Told world description (λ text. IsDescribed text (Describes statements checked
+      of_name))
   pub is_program : IsProgramOf checked of_name program
 
 -- the commands and the count of ignored records of the script, as far as its bytes are told
 abbrev pub IsScript : World → List ℕ → Program → Script → Type 0
-IsScript world name program script = Told world name (λ text. (length text ≤ longest) × (merged program text ≡ Ok script))
+IsScript world name program script = Told world name (λ text. (length text ≤ longest)
+    × (merged program text ≡ Ok script))
 
 -- the text is the report of the two files
 pub record IsReport (world : World) (description script_name text : List ℕ) : Type 0 where
@@ -74,7 +81,8 @@ pub record IsGrounding (world : World) (description text : List ℕ) : Type 0 wh
   pub statements : List PlainStatement
   pub checked : PlainChecked
   pub of_name : List ℕ
-  pub is_described : Told world description (λ bytes. IsDescribed bytes (Describes statements checked of_name))
+  pub is_described : Told world description (λ bytes. IsDescribed bytes
+      (Describes statements checked of_name))
   pub is : text ≡ ground_text statements checked of_name
 
 -- the text is the one that the task asks for
@@ -101,22 +109,31 @@ pub record WritesPart (old new : World) (task : Task) : Type 0 where
 
 -- ---- why nothing is written
 
--- What a status says that refuses the description, which is input 0. Its bytes, statements, declarations and cycles are tested
--- before its limits, and these in their order.
+-- What a status says that refuses the description, which is input 0. Its bytes, statements,
+-- declarations and cycles are tested before its limits, and these in their order.
 abbrev pub RefusesDescription : World → World → List ℕ → Status → Type 0
-RefusesDescription old new name (status.BadDescription why) = Told old name (λ text. IsDescribed text (Faulty why))
-RefusesDescription old new name (status.TooLarge limit.Description) = Told old name (λ text. IsDescribed text TooLong)
-RefusesDescription old new name (status.TooLarge limit.Units) = Told old name (λ text. IsDescribed text (Exceeds limit.Units))
-RefusesDescription old new name (status.TooLarge limit.Events) = Told old name (λ text. IsDescribed text (Exceeds limit.Events))
-RefusesDescription old new name (status.TooLarge limit.Assignments) = Told old name (λ text. IsDescribed text (Exceeds limit.Assignments))
-RefusesDescription old new name (status.TooLarge limit.Rules) = Told old name (λ text. IsDescribed text (Exceeds limit.Rules))
-RefusesDescription old new name (status.TooLarge limit.Conditions) = Told old name (λ text. IsDescribed text (Exceeds limit.Conditions))
-RefusesDescription old new name (status.TooLarge limit.Cells) = Told old name (λ text. IsDescribed text (Exceeds limit.Cells))
+RefusesDescription old new name (status.BadDescription why) =
+    Told old name (λ text. IsDescribed text (Faulty why))
+RefusesDescription old new name (status.TooLarge limit.Description) =
+    Told old name (λ text. IsDescribed text TooLong)
+RefusesDescription old new name (status.TooLarge limit.Units) =
+    Told old name (λ text. IsDescribed text (Exceeds limit.Units))
+RefusesDescription old new name (status.TooLarge limit.Events) =
+    Told old name (λ text. IsDescribed text (Exceeds limit.Events))
+RefusesDescription old new name (status.TooLarge limit.Assignments) =
+    Told old name (λ text. IsDescribed text (Exceeds limit.Assignments))
+RefusesDescription old new name (status.TooLarge limit.Rules) =
+    Told old name (λ text. IsDescribed text (Exceeds limit.Rules))
+RefusesDescription old new name (status.TooLarge limit.Conditions) =
+    Told old name (λ text. IsDescribed text (Exceeds limit.Conditions))
+RefusesDescription old new name (status.TooLarge limit.Cells) =
+    Told old name (λ text. IsDescribed text (Exceeds limit.Cells))
 RefusesDescription old new name (status.ReadFault zero) = Rose (old.faults name) (new.faults name)
 RefusesDescription old new name other = ⊥
 
 -- of a program of the description and of the bytes of the script this is so
-pub record Meets (world : World) (description script : List ℕ) (P : Program → List ℕ → Type 0) : Type 0 where
+pub record Meets (world : World) (description script : List ℕ) (P : Program → List ℕ → Type 0) :
+    Type 0 where
   pub program : Program
   pub runs : Runs world description program
   pub is_script : Told world script (P program)
@@ -124,31 +141,39 @@ pub record Meets (world : World) (description script : List ℕ) (P : Program �
 -- what a status says that refuses the script, which is input 1
 abbrev pub RefusesScript : World → World → List ℕ → List ℕ → Status → Type 0
 RefusesScript old new description script (status.ReadFault (suc zero)) =
-    Rose (old.faults script) (new.faults script) × ((program : Program) × Runs old description program)
+    Rose (old.faults script) (new.faults script)
+    × ((program : Program) × Runs old description program)
 RefusesScript old new description script (status.TooLarge limit.Script) =
     Meets old description script (λ program text. longest < length text)
 RefusesScript old new description script (status.BadScript (suc zero) place fault.BadRecord) =
-    Meets old description script (λ program text. (length text ≤ longest) × (merged program text ≡ Err (refused.BadRecord place)))
+    Meets old description script (λ program text. (length text ≤ longest)
+    × (merged program text ≡ Err (refused.BadRecord place)))
 RefusesScript old new description script (status.TooLarge limit.Commands) =
-    Meets old description script (λ program text. (length text ≤ longest) × (merged program text ≡ Err refused.TooMany))
+    Meets old description script (λ program text. (length text ≤ longest)
+    × (merged program text ≡ Err refused.TooMany))
 RefusesScript old new description script (status.NotBuilt (suc zero)) =
     Meets old description script
-    (λ program text. (length text ≤ longest) × ((given : Script) × (merged program text ≡ Ok given) × (is_plain (commands_of given.commands) ≡ false)))
+    (λ program text. (length text ≤ longest) × ((given : Script) × (merged program text ≡ Ok given)
+    × (is_plain (commands_of given.commands) ≡ false)))
 RefusesScript old new description script other = ⊥
 
--- what a status says that refuses what the task reads. Each case repeats that the tests before it passed.
+-- what a status says that refuses what the task reads. Each case repeats that the tests before it
+-- passed.
 abbrev pub Refuses : World → World → Task → Status → Type 0
-Refuses old new (Recognise description script) s = RefusesDescription old new description s ⊎ RefusesScript old new description script s
+Refuses old new (Recognise description script) s = RefusesDescription old new description s
+    ⊎ RefusesScript old new description script s
 Refuses old new (Ground description) s = RefusesDescription old new description s
 
 -- What a status says, where the words ask for something. Want of memory alone has no cause.
 abbrev pub Means : World → World → Task → Status → Type 0
 Means old new task status.Done = WritesAll old new task
-Means old new task status.WriteFault = Rose old.write_faults new.write_faults × WritesPart old new task
+Means old new task status.WriteFault = Rose old.write_faults new.write_faults
+    × WritesPart old new task
 Means old new task status.OutOfMemory = WritesNothing old new
 Means old new task s = Refuses old new task s × WritesNothing old new
 
--- what a status says: where the words ask for nothing, that they do not, and that nothing else happened
+-- what a status says: where the words ask for nothing, that they do not, and that nothing else
+-- happened
 abbrev pub MeansOfWords : World → World → Option Task → Status → Type 0
 MeansOfWords old new None s = (s ≡ status.BadWords) × (new ≡ old)
 MeansOfWords old new (Some task) s = Means old new task s
@@ -173,7 +198,8 @@ of_merged (Err refused.OutOfMemory) = status.OutOfMemory
 
 -- the status that the bytes of a script come to
 abbrev pub script_outcome : Program → List ℕ → Status
-script_outcome program text = if nat_lt longest (length text) then status.TooLarge limit.Script else of_merged (merged program text)
+script_outcome program text = if nat_lt longest (length text) then status.TooLarge limit.Script
+    else of_merged (merged program text)
 
 -- the status that a description and the bytes of a script come to
 abbrev pub IsRecogniseOutcome : Described → List ℕ → Status → Type 0
@@ -193,13 +219,17 @@ ground_outcome (Describes statements checked of_name) = status.Done
 -- where the files are told and read well, the status is what their bytes come to, or memory ran out
 abbrev pub Concludes : World → World → Task → Status → Type 0
 Concludes old new (Recognise description script) s =
-    Told old description (λ bytes. Told old script (λ others. ReadWell old new description → ReadWell old new script →
-    (s ≡ status.OutOfMemory) ⊎ ((described : Described) × IsDescribed bytes described × IsRecogniseOutcome described others s)))
+    Told old description (λ bytes. Told old script (λ others. ReadWell old new description
+    → ReadWell old new script →
+    (s ≡ status.OutOfMemory) ⊎ ((described : Described) × IsDescribed bytes described
+    × IsRecogniseOutcome described others s)))
 Concludes old new (Ground description) s =
     Told old description (λ bytes. ReadWell old new description →
-    (s ≡ status.OutOfMemory) ⊎ ((described : Described) × IsDescribed bytes described × (s ≡ ground_outcome described)))
+    (s ≡ status.OutOfMemory) ⊎ ((described : Described) × IsDescribed bytes described
+    × (s ≡ ground_outcome described)))
 
 -- Where no write failed either, so it is. (What a text is as a description is determined.)
 abbrev pub Completes : World → World → Option Task → Status → Type 0
 Completes old new None s = Unit {0}
-Completes old new (Some task) s = (Rose old.write_faults new.write_faults → ⊥) → Concludes old new task s
+Completes old new (Some task) s = (Rose old.write_faults new.write_faults → ⊥)
+    → Concludes old new task s

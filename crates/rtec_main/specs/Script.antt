@@ -1,5 +1,6 @@
 -- Merged scripts, and those that `recognise` runs: at most 1,000 adds and then one seal.
-use Rattle.std.specs.Prelude.{◌≡◌, ◌≤◌, ℕ, ◌-◌, nat_le, Bool, true, false, ◌&&◌, List, [], ◌∷◌, ◌++◌, length, map, take, slice_get, Option, Some, Result}
+use Rattle.std.specs.Prelude.{◌≡◌, ◌≤◌, ℕ, ◌-◌, nat_le, Bool, true, false, ◌&&◌, List, [], ◌∷◌}
+use Rattle.std.specs.Prelude.{◌++◌, length, map, take, slice_get, Option, Some, Result}
 use Rattle.std.specs.List.{list_all}
 use Rattle.ground_types.specs.declared.entries.Act.TheVariants.{Add}
 use Rattle.ground_types.specs.declared.entries.Command.{Command}
@@ -33,8 +34,10 @@ is_seal command = false
 -- at most 1,000 adds, and then one seal
 abbrev pub is_plain : List Command → Bool
 is_plain commands =
-    is_seal (slice_get commands (length commands - 1)) && nat_le (length commands) 1001 && list_all is_add (take (length commands - 1) commands)
+    is_seal (slice_get commands (length commands - 1)) && nat_le (length commands) 1001
+    && list_all is_add (take (length commands - 1) commands)
 
 -- the same in parts
 abbrev pub IsPlainScript : List Command → Type 0
-IsPlainScript commands = (adds : List Command) × (list_all is_add adds ≡ true) × (length adds ≤ 1000) × (commands ≡ adds ++ Seal ∷ [])
+IsPlainScript commands = (adds : List Command) × (list_all is_add adds ≡ true)
+    × (length adds ≤ 1000) × (commands ≡ adds ++ Seal ∷ [])

@@ -13,7 +13,12 @@ task_by (lent.Ground description) = Ground description.now
 
 -- inputs beside a sink that took this
 abbrev pub world_of : (List ℕ → Option (List ℕ)) → (List ℕ → ℕ) → Option (List ℕ) → ℕ → World
-world_of bytes faults taken write_faults = record { bytes = bytes; faults = faults; taken = taken; write_faults = write_faults }
+world_of bytes faults taken write_faults = record {
+  bytes = bytes;
+  faults = faults;
+  taken = taken;
+  write_faults = write_faults;
+}
 
 -- the text that the task asks for, or why there is none
 abbrev pub Gives : World → World → Task → Result (Vec ℕ Global) Status → Type 0
@@ -21,9 +26,11 @@ Gives old new task (Ok text) = IsText old task text.items
 Gives old new task (Err s) = (s ≡ status.OutOfMemory) ⊎ Refuses old new task s
 
 -- the same, whatever the sink took
-abbrev pub Answers : (List ℕ → Option (List ℕ)) → (List ℕ → ℕ) → (List ℕ → ℕ) → Task → Result (Vec ℕ Global) Status → Type 0
+abbrev pub Answers : (List ℕ → Option (List ℕ)) → (List ℕ → ℕ) → (List ℕ → ℕ) → Task
+    → Result (Vec ℕ Global) Status → Type 0
 Answers bytes before now task result =
-    (taken : Option (List ℕ)) (write_faults : ℕ) → Gives (world_of bytes before taken write_faults) (world_of bytes now taken write_faults) task result
+    (taken : Option (List ℕ)) (write_faults : ℕ) → Gives (world_of bytes before taken write_faults)
+    (world_of bytes now taken write_faults) task result
 
 -- the status of a run that comes to a text, and writes it
 abbrev pub status_of : Result (Vec ℕ Global) Status → Status
@@ -31,6 +38,9 @@ status_of (Ok text) = status.Done
 status_of (Err s) = s
 
 -- the same of what the bytes come to
-abbrev pub ConcludesAny : (List ℕ → Option (List ℕ)) → (List ℕ → ℕ) → (List ℕ → ℕ) → Task → Result (Vec ℕ Global) Status → Type 0
+abbrev pub ConcludesAny : (List ℕ → Option (List ℕ)) → (List ℕ → ℕ) → (List ℕ → ℕ) → Task
+    → Result (Vec ℕ Global) Status → Type 0
 ConcludesAny bytes before now task result =
-    (taken : Option (List ℕ)) (write_faults : ℕ) → Concludes (world_of bytes before taken write_faults) (world_of bytes now taken write_faults) task (status_of result)
+    (taken : Option (List ℕ)) (write_faults : ℕ)
+    → Concludes (world_of bytes before taken write_faults)
+    (world_of bytes now taken write_faults) task (status_of result)

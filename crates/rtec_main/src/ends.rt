@@ -1,10 +1,13 @@
-// The last three lines of a report, and what they count. Each `put_` function adds to the end of a text. Where memory
-// runs out, the text keeps what it had, and may have a part of what was to be added behind it.
-ghost use Rattle.std.specs.Prelude.{◌≡◌, ◌^◌, ◌<◌, ◌++◌, [], ◌∷◌, not, map, flat_map, length, sum_by, count_by, codes, decimal, OnOk};
+// The last three lines of a report, and what they count. Each `put_` function adds to the end of a
+// text. Where memory runs out, the text keeps what it had, and may have a part of what was to be
+// added behind it.
+ghost use Rattle.std.specs.Prelude.{◌≡◌, ◌^◌, ◌<◌, ◌++◌, [], ◌∷◌, not, map, flat_map, length};
+ghost use Rattle.std.specs.Prelude.{sum_by, count_by, codes, decimal, OnOk};
 ghost use Rattle.ground_types.specs.History.{is_seal};
 ghost use Rattle.delay_revise.specs.Published.{published};
 ghost use Rattle.simple_fluent.specs.Rows.{pairs};
-ghost use Rattle.rtec_main.specs.Report.{has_reply, reply_count_text, entries_line, span_count, point_count, text_of_lines};
+ghost use Rattle.rtec_main.specs.Report.{has_reply, reply_count_text, entries_line, span_count};
+ghost use Rattle.rtec_main.specs.Report.{point_count, text_of_lines};
 ghost use Rattle.rtec_main.specs.Printed.{totals_line, end_of};
 
 use crate::printing::{put_number, put_text, reply_word};
@@ -71,7 +74,8 @@ fn put_reply_counts(
     history: &[Entry],
     wanted: &[Reply],
 ) -> Result<(), OutOfMemory>
-    ensures { OnOk result (out.new.items ≡ out.old.items ++ flat_map (reply_count_text history.now) wanted.now) }
+    ensures { OnOk result (out.new.items ≡ out.old.items ++ flat_map (reply_count_text history.now)
+        wanted.now) }
 {
     for reply in wanted {
         put_reply_count(out, history, *reply)?;
@@ -81,7 +85,8 @@ fn put_reply_counts(
 
 // Adds the line of the entries and of each reply.
 fn put_entries(out: &mut Vec<u8>, history: &[Entry]) -> Result<(), OutOfMemory>
-    ensures { OnOk result (out.new.items ≡ out.old.items ++ text_of_lines (entries_line history.now ∷ [])) }
+    ensures { OnOk result (out.new.items ≡ out.old.items ++ text_of_lines (entries_line history.now
+        ∷ [])) }
 {
     put_text(out, "entries ")?;
     put_number(out, count_feeds(history))?;
@@ -91,14 +96,16 @@ fn put_entries(out: &mut Vec<u8>, history: &[Entry]) -> Result<(), OutOfMemory>
 
 // Adds the line of the records that are ignored.
 fn put_ignored(out: &mut Vec<u8>, ignored: u64) -> Result<(), OutOfMemory>
-    ensures { OnOk result (out.new.items ≡ out.old.items ++ text_of_lines ((codes "ignored " ++ decimal ignored) ∷ [])) }
+    ensures { OnOk result (out.new.items ≡ out.old.items ++ text_of_lines
+        ((codes "ignored " ++ decimal ignored) ∷ [])) }
 {
     put_text(out, "ignored ")?;
     put_number(out, ignored)?;
     put_text(out, "\n")
 }
 
-// How many spans rows have. The sum fits: there are fewer than 2^64 rows, of fewer than 2^64 spans each.
+// How many spans rows have. The sum fits: there are fewer than 2^64 rows, of fewer than 2^64 spans
+// each.
 fn count_spans(rows: &[Spans]) -> u128
     ensures { result ≡ sum_by length (map pairs rows.now) }
 {
@@ -168,7 +175,8 @@ fn put_totals(
     Ok(())
 }
 
-/// Adds the last three lines, where what is recognised is all that is published. Refused, it leaves a part of them.
+/// Adds the last three lines, where what is recognised is all that is published. Refused, it leaves
+/// a part of them.
 pub fn put_end(
     out: &mut Vec<u8>,
     history: &[Entry],
@@ -179,7 +187,8 @@ pub fn put_end(
     requires points { sum_by (λ unit. point_count (published unit)) recognised.now.rows < 2 ^ 128 }
     ensures { OnOk result (out.new.items
         ≡ out.old.items
-        ++ text_of_lines (end_of history.now ignored (map published recognised.now.rows) recognised.now.evaluations)) }
+        ++ text_of_lines (end_of history.now ignored (map published recognised.now.rows)
+        recognised.now.evaluations)) }
 {
     put_ignored(out, ignored)?;
     put_entries(out, history)?;

@@ -1,5 +1,6 @@
 // The ground text of a description.
-ghost use Rattle.std.specs.Prelude.{◌≡◌, ◌<◌, ◌≤◌, ◌++◌, [], map, flat_map, length, slice_get, option_map, IfOk, OnOk, if◌then◌else◌};
+ghost use Rattle.std.specs.Prelude.{◌≡◌, ◌<◌, ◌≤◌, ◌++◌, [], map, flat_map, length, slice_get};
+ghost use Rattle.std.specs.Prelude.{option_map, IfOk, OnOk, if◌then◌else◌};
 ghost use Rattle.rule_read.specs.declared.form.Term.TheVariants as term;
 ghost use Rattle.rule_read.specs.Forms.{plain, plain_form};
 ghost use Rattle.domain_decl.specs.Accepted.{plain_checked};
@@ -8,7 +9,9 @@ ghost use Rattle.ground_rules.specs.Grounded.{plain_kind, plain_unit, plain_prog
 ghost use Rattle.ground_rules.specs.Limits.{counts_as_rule};
 ghost use Rattle.ground_rules.specs.Listed.{clauses_in, listed_at, unit_bound};
 ghost use Rattle.rtec_main.specs.Atoms.{entity_words};
-ghost use Rattle.rtec_main.specs.GroundText.{counts_text, ground_fv, inner_line, initially_text, instance_text, unit_text, numbered_text, layer_text, layers_text, ground_text};
+ghost use Rattle.rtec_main.specs.GroundText.{counts_text, ground_fv, inner_line, initially_text};
+ghost use Rattle.rtec_main.specs.GroundText.{instance_text, unit_text, numbered_text, layer_text};
+ghost use Rattle.rtec_main.specs.GroundText.{layers_text, ground_text};
 ghost use Rattle.rtec_main.specs.Reads.{IsSoundDescription};
 
 use crate::inputs::Description;
@@ -22,7 +25,8 @@ use std::alloc::Global;
 
 // Adds the line of the counts.
 fn put_counts(out: &mut Vec<u8>, program: &Program, rules: u64) -> Result<(), OutOfMemory>
-    ensures { OnOk result (out.new.items ≡ out.old.items ++ counts_text program.now.events (length program.now.units) rules (length program.now.layers)) }
+    ensures { OnOk result (out.new.items ≡ out.old.items ++ counts_text program.now.events
+        (length program.now.units) rules (length program.now.layers)) }
 {
     put_text(out, "events ")?;
     put_number(out, program.events)?;
@@ -42,7 +46,8 @@ fn entity_terms(
     places: &[u32],
     args: &[u32],
 ) -> Result<List<Term>, OutOfMemory>
-    ensures { IfOk result (λ terms. terms ≡ map term.Entity (entity_words domains.now places.now args.now)) }
+    ensures { IfOk result (λ terms. terms ≡ map term.Entity (entity_words domains.now places.now
+        args.now)) }
 {
     let mut terms = Vec::with_capacity(alloc, args.len())?;
     for (domain, entity) in places.iter().zip(args) {
@@ -92,7 +97,8 @@ fn put_initially(
     unit: &Unit,
 ) -> Result<(), OutOfMemory>
     ensures { OnOk result (out.new.items
-        ≡ out.old.items ++ initially_text program.now.domains (slice_get program.now.names unit.now.name) unit.now.args (plain_kind unit.now.kind)) }
+        ≡ out.old.items ++ initially_text program.now.domains (slice_get program.now.names
+        unit.now.name) unit.now.args (plain_kind unit.now.kind)) }
 {
     let (
         Some(name),
@@ -109,9 +115,12 @@ fn put_initially(
     put_inner(alloc, out, &Form::Initially(fv))
 }
 
-// Adds the line of an instance of a rule or of a `holdsFor` statement, and nothing for one of `initially`.
+// Adds the line of an instance of a rule or of a `holdsFor` statement, and nothing for one of
+// `initially`.
 fn put_instance(alloc: Global, out: &mut Vec<u8>, form: &Form) -> Result<(), OutOfMemory>
-    ensures { OnOk result (out.new.items ≡ out.old.items ++ (if counts_as_rule (plain_form form.now) then inner_line (plain_form form.now) else [])) }
+    ensures { OnOk result (out.new.items ≡ out.old.items
+        ++ (if counts_as_rule (plain_form form.now) then inner_line (plain_form form.now)
+        else [])) }
 {
     match form {
         Form::Initially(_) => Ok(()),
@@ -127,7 +136,8 @@ fn put_instances(
     unit: UnitId,
 ) -> Result<(), OutOfMemory>
     requires { unit < unit_bound instances.now }
-    ensures { OnOk result (out.new.items ≡ out.old.items ++ flat_map instance_text (listed_at instances.now unit)) }
+    ensures { OnOk result (out.new.items ≡ out.old.items ++ flat_map instance_text
+        (listed_at instances.now unit)) }
 {
     for place in 0..instances.count(unit) {
         let form = instances.form_at(alloc, unit, place)?;
@@ -148,7 +158,8 @@ fn put_unit(
 ) -> Result<(), OutOfMemory>
     requires { number < unit_bound instances.now }
     ensures { OnOk result (out.new.items
-        ≡ out.old.items ++ unit_text program.now.domains program.now.names layer (plain_unit unit.now) (listed_at instances.now number)) }
+        ≡ out.old.items ++ unit_text program.now.domains program.now.names layer
+        (plain_unit unit.now) (listed_at instances.now number)) }
 {
     put_text(out, "layer ")?;
     put_number(out, layer)?;
@@ -171,7 +182,9 @@ fn put_numbered(
     requires { length program.now.units ≤ unit_bound instances.now }
     ensures { OnOk result (out.new.items
         ≡ out.old.items
-        ++ numbered_text program.now.domains program.now.names layer (option_map plain_unit (slice_get program.now.units number)) (listed_at instances.now number)) }
+        ++ numbered_text program.now.domains program.now.names layer
+        (option_map plain_unit (slice_get program.now.units number))
+        (listed_at instances.now number)) }
 {
     match program.units.as_slice().get(number as usize) {
         Some(unit) => put_unit(alloc, out, program, instances, layer, number, unit),
@@ -190,7 +203,8 @@ fn put_layer(
 ) -> Result<(), OutOfMemory>
     requires { length program.now.units ≤ unit_bound instances.now }
     ensures { OnOk result (out.new.items
-        ≡ out.old.items ++ layer_text (plain_program program.now) (flat_map instances_of (clauses_in instances.now)) (layer, units.now)) }
+        ≡ out.old.items ++ layer_text (plain_program program.now)
+        (flat_map instances_of (clauses_in instances.now)) (layer, units.now)) }
 {
     for unit in units {
         put_numbered(alloc, out, program, instances, layer, *unit)?;
@@ -207,7 +221,8 @@ fn put_layers(
 ) -> Result<(), OutOfMemory>
     requires { length program.now.units ≤ unit_bound instances.now }
     ensures { OnOk result (out.new.items
-        ≡ out.old.items ++ layers_text (plain_program program.now) (flat_map instances_of (clauses_in instances.now))) }
+        ≡ out.old.items ++ layers_text (plain_program program.now)
+        (flat_map instances_of (clauses_in instances.now))) }
 {
     for (place, units) in program.layers.as_slice().iter().enumerate() {
         put_layer(alloc, out, program, instances, place + 1, units.as_slice())?;
@@ -215,12 +230,14 @@ fn put_layers(
     Ok(())
 }
 
-/// The ground text of a description: its canonical text, how much there is of what, and for each unit, layer by layer,
-/// the instances that define it. A text that memory did not suffice for is dropped.
+/// The ground text of a description: its canonical text, how much there is of what, and for each
+/// unit, layer by layer, the instances that define it. A text that memory did not suffice for is
+/// dropped.
 pub fn ground_text(alloc: Global, description: &Description) -> Result<Vec<u8>, OutOfMemory>
     requires { IsSoundDescription description.now }
     ensures { IfOk result (λ text. text.items
-        ≡ ground_text (map plain description.now.syntax.statements) (plain_checked description.now.checked) description.now.layers.of_name) }
+        ≡ ground_text (map plain description.now.syntax.statements)
+        (plain_checked description.now.checked) description.now.layers.of_name) }
 {
     let program = &description.program;
     let known = Known::new(alloc, program.domains.as_slice(), program.names.as_slice())?;

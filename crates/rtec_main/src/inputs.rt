@@ -1,6 +1,7 @@
 // The description: it is read to its end and refused by one answer, or it has its program.
 ghost use Rattle.std.specs.Prelude.{◌≡◌, ◌≤◌, ℕ, true, List, IfOk, IfErr, IfSome};
-ghost use Rattle.rtec_main.specs.Reads.{IsDescriptionOf, IsSoundDescription, IsDescriptionRefused, has_described_limit, IsWhyNoDescription};
+ghost use Rattle.rtec_main.specs.Reads.{IsDescriptionOf, IsSoundDescription, IsDescriptionRefused};
+ghost use Rattle.rtec_main.specs.Reads.{has_described_limit, IsWhyNoDescription};
 
 use crate::reads::{Unread, read_all};
 use crate::status::{DescFault, Status};
@@ -169,8 +170,10 @@ pub fn read_description<I: Inputs>(
     name: &str,
 ) -> Result<Description, DescriptionRefused>
     ensures sound { IfOk result IsSoundDescription }
-    ensures ok { IfOk result (λ found. IfSome (I.bytes inputs.old name.now) (λ text. IsDescriptionOf text found)) }
-    ensures err { IfErr result (IsWhyNoDescription (I.bytes inputs.old name.now) (I.faults inputs.old name.now) (I.faults inputs.new name.now)) }
+    ensures ok { IfOk result (λ found. IfSome (I.bytes inputs.old name.now)
+        (λ text. IsDescriptionOf text found)) }
+    ensures err { IfErr result (IsWhyNoDescription (I.bytes inputs.old name.now)
+        (I.faults inputs.old name.now) (I.faults inputs.new name.now)) }
     ensures limit { IfErr result (λ refused. has_described_limit refused ≡ true) }
     ensures same { (other : List ℕ) → I.bytes inputs.new other ≡ I.bytes inputs.old other }
     ensures later { (other : List ℕ) → I.faults inputs.old other ≤ I.faults inputs.new other }

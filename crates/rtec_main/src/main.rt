@@ -1,7 +1,8 @@
-//! `rtec`, a recogniser of composite activities over streams of events, after the Run-Time Event Calculus.
-//! Its promise stands on `run`: what is written is the report of a script under a description, or the ground text of a
-//! description, and each other status but want of memory names its cause. Words, inputs, replies, rows and printing are
-//! private parts. `main` makes the real inputs, the real standard output and a gate that holds nobody, and calls `run`.
+//! `rtec`, a recogniser of composite activities over streams of events, after the Run-Time Event
+//! Calculus. Its promise stands on `run`: what is written is the report of a script under a
+//! description, or the ground text of a description, and each other status but want of memory names
+//! its cause. Words, inputs, replies, rows and printing are private parts. `main` makes the real
+//! inputs, the real standard output and a gate that holds nobody, and calls `run`.
 #![tactic(auto)]
 
 mod ends;

@@ -1,6 +1,8 @@
-// The lines of entries, queries and rows. Each `put_` function adds to the end of a text. Where memory runs out, the
-// text keeps what it had, and may have a part of what was to be added behind it.
-ghost use Rattle.std.specs.Prelude.{◌≡◌, true, ◌++◌, ◌∷◌, [], map, flat_map, slice_get, codes, decimal, OnOk};
+// The lines of entries, queries and rows. Each `put_` function adds to the end of a text. Where
+// memory runs out, the text keeps what it had, and may have a part of what was to be added behind
+// it.
+ghost use Rattle.std.specs.Prelude.{◌≡◌, true, ◌++◌, ◌∷◌, [], map, flat_map, slice_get, codes};
+ghost use Rattle.std.specs.Prelude.{decimal, OnOk};
 ghost use Rattle.std.specs.Option.{option_copied};
 ghost use Rattle.std.specs.List.{list_all};
 ghost use Rattle.ground_types.specs.Publication.{fluent_rows};
@@ -9,7 +11,9 @@ ghost use Rattle.domain_decl.specs.Sound.{is_sound_domain};
 ghost use Rattle.rtec_main.specs.Atoms.{entity_word, entity_words, atom_by, event_atom, unit_atom};
 ghost use Rattle.delay_revise.specs.Published.{published};
 ghost use Rattle.simple_fluent.specs.Rows.{pairs};
-ghost use Rattle.rtec_main.specs.Report.{value_words, act_word, reply_word, span_text, fluent_lines, unit_lines, row_lines, query_line, text_of_lines};
+ghost use Rattle.rtec_main.specs.Report.{value_words, act_word, reply_word, span_text};
+ghost use Rattle.rtec_main.specs.Report.{fluent_lines, unit_lines, row_lines, query_line};
+ghost use Rattle.rtec_main.specs.Report.{text_of_lines};
 ghost use Rattle.rtec_main.specs.Printed.{feed_lines, event_lines};
 
 use ground_rules::event_at;
@@ -56,7 +60,8 @@ fn put_further(
     places: &[u32],
     args: &[u32],
 ) -> Result<(), OutOfMemory>
-    ensures { OnOk result (out.new.items ≡ out.old.items ++ flat_map (λ word. codes "," ++ word) (entity_words domains.now places.now args.now)) }
+    ensures { OnOk result (out.new.items ≡ out.old.items ++ flat_map (λ word. codes "," ++ word)
+        (entity_words domains.now places.now args.now)) }
 {
     for (domain, entity) in places.iter().zip(args) {
         put_text(out, ",")?;
@@ -65,7 +70,8 @@ fn put_further(
     Ok(())
 }
 
-/// Adds the atom of a ground event or a unit: its name, and in parentheses the entities of its arguments.
+/// Adds the atom of a ground event or a unit: its name, and in parentheses the entities of its
+/// arguments.
 pub fn put_atom(
     out: &mut Vec<u8>,
     domains: &[Domain],
@@ -154,8 +160,8 @@ pub fn reply_word(reply: Reply) -> &'static str
     }
 }
 
-/// Adds the line of an add or a revoke, and nothing for a seal, with a list in which arguments are made. Refused, it leaves
-/// a part of the line.
+/// Adds the line of an add or a revoke, and nothing for a seal, with a list in which arguments are
+/// made. Refused, it leaves a part of the line.
 pub fn put_feed(
     alloc: Global,
     out: &mut Vec<u8>,
@@ -165,7 +171,8 @@ pub fn put_feed(
 ) -> Result<(), OutOfMemory>
     requires sound { IsSound program.now }
     requires domains { list_all is_sound_domain program.now.domains ≡ true }
-    ensures { OnOk result (out.new.items ≡ out.old.items ++ text_of_lines (feed_lines program.now entry)) }
+    ensures { OnOk result (out.new.items ≡ out.old.items ++ text_of_lines
+        (feed_lines program.now entry)) }
 {
     let Entry::Fed {
         feeder,
@@ -206,7 +213,8 @@ fn put_span(out: &mut Vec<u8>, q: Point, span: Span) -> Result<(), OutOfMemory>
 
 // Adds spans, one after the other.
 fn put_spans(out: &mut Vec<u8>, q: Point, spans: &[Span]) -> Result<(), OutOfMemory>
-    ensures { OnOk result (out.new.items ≡ out.old.items ++ flat_map (span_text q) (pairs spans.now)) }
+    ensures { OnOk result (out.new.items ≡ out.old.items ++ flat_map (span_text q)
+        (pairs spans.now)) }
 {
     for span in spans {
         put_span(out, q, *span)?;
@@ -224,7 +232,8 @@ fn put_fluent(
     spans: &[Span],
 ) -> Result<(), OutOfMemory>
     ensures { OnOk result (out.new.items
-        ≡ out.old.items ++ text_of_lines (fluent_lines q (unit_atom program.now unit.now) (value.now, pairs spans.now))) }
+        ≡ out.old.items ++ text_of_lines (fluent_lines q (unit_atom program.now unit.now)
+        (value.now, pairs spans.now))) }
 {
     if spans.is_empty() {
         return Ok(());
@@ -246,7 +255,8 @@ fn put_fluents(
     rows: &[Spans],
 ) -> Result<(), OutOfMemory>
     ensures { OnOk result (out.new.items
-        ≡ out.old.items ++ text_of_lines (unit_lines program.now q unit.now (fluent_rows (map pairs rows.now)))) }
+        ≡ out.old.items ++ text_of_lines (unit_lines program.now q unit.now
+        (fluent_rows (map pairs rows.now)))) }
 {
     for (value, spans) in value_words(program, unit).iter().zip(rows) {
         put_fluent(out, program, q, unit, value.as_str(), spans.as_slice())?;
@@ -256,7 +266,8 @@ fn put_fluents(
 
 // Adds points, one after the other.
 fn put_points(out: &mut Vec<u8>, points: &[Point]) -> Result<(), OutOfMemory>
-    ensures { OnOk result (out.new.items ≡ out.old.items ++ flat_map (λ t. codes " " ++ decimal t) points.now) }
+    ensures { OnOk result (out.new.items ≡ out.old.items ++ flat_map (λ t. codes " " ++ decimal t)
+        points.now) }
 {
     for point in points {
         put_text(out, " ")?;
@@ -272,7 +283,8 @@ fn put_event(
     unit: &Unit,
     points: &[Point],
 ) -> Result<(), OutOfMemory>
-    ensures { OnOk result (out.new.items ≡ out.old.items ++ text_of_lines (event_lines (unit_atom program.now unit.now) points.now)) }
+    ensures { OnOk result (out.new.items ≡ out.old.items ++ text_of_lines
+        (event_lines (unit_atom program.now unit.now) points.now)) }
 {
     if points.is_empty() {
         return Ok(());
@@ -300,7 +312,8 @@ fn put_unit(
     }
 }
 
-/// Adds the lines of the rows that are not empty, unit by unit. Refused, it leaves a part of the lines.
+/// Adds the lines of the rows that are not empty, unit by unit. Refused, it leaves a part of the
+/// lines.
 pub fn put_rows(
     out: &mut Vec<u8>,
     program: &Program,
@@ -324,7 +337,8 @@ pub fn put_query(
     q: Point,
     evaluations: u128,
 ) -> Result<(), OutOfMemory>
-    ensures { OnOk result (out.new.items ≡ out.old.items ++ text_of_lines (query_line k w q evaluations ∷ [])) }
+    ensures { OnOk result (out.new.items ≡ out.old.items ++ text_of_lines
+        (query_line k w q evaluations ∷ [])) }
 {
     put_text(out, "query ")?;
     put_number(out, k)?;

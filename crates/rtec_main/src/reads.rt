@@ -1,5 +1,6 @@
 // Reading a whole input.
-ghost use Rattle.std.specs.Prelude.{◌≡◌, ◌≤◌, ◌<◌, ◌+◌, ◌-◌, ◌^◌, ℕ, List, length, vec_len, IfOk, IfErr, IfSome};
+ghost use Rattle.std.specs.Prelude.{◌≡◌, ◌≤◌, ◌<◌, ◌+◌, ◌-◌, ◌^◌, ℕ, List, length, vec_len, IfOk};
+ghost use Rattle.std.specs.Prelude.{IfErr, IfSome};
 ghost use Rattle.rt_base.specs.Outside.{Rose};
 ghost use Rattle.rtec_main.specs.Reads.{Reads, Continues, IsFaultOnlyIf};
 
@@ -27,10 +28,12 @@ fn read_piece<I: Inputs>(
     requires { vec_len text.old < 2 ^ 62 }
     ensures room { IfOk result (λ n. n ≤ length buffer.old) }
     ensures len { IfOk result (λ n. vec_len text.new ≡ vec_len text.old + n) }
-    ensures told { IfOk result (λ n. IfSome (I.bytes inputs.old name.now) (Continues n (length buffer.old) text.old.items text.new.items)) }
+    ensures told { IfOk result (λ n. IfSome (I.bytes inputs.old name.now)
+        (Continues n (length buffer.old) text.old.items text.new.items)) }
     ensures same { (other : List ℕ) → I.bytes inputs.new other ≡ I.bytes inputs.old other }
     ensures later { (other : List ℕ) → I.faults inputs.old other ≤ I.faults inputs.new other }
-    ensures fault { IfErr result (IsFaultOnlyIf (Rose (I.faults inputs.old name.now) (I.faults inputs.new name.now))) }
+    ensures fault { IfErr result (IsFaultOnlyIf (Rose (I.faults inputs.old name.now)
+        (I.faults inputs.new name.now))) }
 {
     let Ok(count) = inputs.read_at(name, text.len() as u64, buffer) else {
         return Err(Unread::Fault);
@@ -50,7 +53,8 @@ pub fn read_all<I: Inputs>(
 ) -> Result<Vec<u8>, Unread>
     requires { limit < 2 ^ 62 - 1 }
     ensures few { IfOk result (λ text. vec_len text ≤ limit) }
-    ensures told { Reads (I.bytes inputs.old name.now) limit (I.faults inputs.old name.now) (I.faults inputs.new name.now) result }
+    ensures told { Reads (I.bytes inputs.old name.now) limit (I.faults inputs.old name.now)
+        (I.faults inputs.new name.now) result }
     ensures same { (other : List ℕ) → I.bytes inputs.new other ≡ I.bytes inputs.old other }
     ensures later { (other : List ℕ) → I.faults inputs.old other ≤ I.faults inputs.new other }
 {

@@ -20,7 +20,8 @@ pub fn recognise(
 ) -> Result<Recognised, OutOfMemory>
     requires program { IsDeclared program.now }
     requires history { IsPlainHistory history.now }
-    ensures rows { IfOk result (λ r. map published r.rows ≡ (publication program.now history.now 0).rows) }
+    ensures rows { IfOk result (λ r. map published r.rows
+        ≡ (publication program.now history.now 0).rows) }
     ensures evaluations { IfOk result (λ r. r.evaluations ≡ evaluations program.now history.now 0) }
 {
     let store = store_of(alloc, history)?;

@@ -89,7 +89,8 @@ fn reply_after(plan: &Plan, history: &[Entry], act: Act, event: EventId, at: Poi
 fn entry_after(plan: &Plan, history: &[Entry], command: Command) -> Option<Entry>
     requires sound { IsSoundPlan plan.now }
     requires few { seals history.now ≤ plan.now.queries }
-    ensures { let made = entries_of plan.now history.now command in MatchOption result (made ≡ []) (λ entry. made ≡ entry ∷ []) }
+    ensures { let made = entries_of plan.now history.now command in
+        MatchOption result (made ≡ []) (λ entry. made ≡ entry ∷ []) }
 {
     match command {
         Command::Feed {
@@ -120,7 +121,8 @@ pub fn history(alloc: Global, plan: &Plan, commands: &[Placed]) -> Result<Vec<En
     requires plan { IsSoundPlan plan.now }
     requires query_some { 1 ≤ plan.now.queries }
     requires commands { IsPlainScript (commands_of commands.now) }
-    ensures exact { IfOk result (λ history. history.items ≡ history_of plan.now (commands_of commands.now)) }
+    ensures exact { IfOk result (λ history. history.items ≡ history_of plan.now
+        (commands_of commands.now)) }
     ensures legal { IfOk result (λ history. IsLegal plan.now history.items) }
     ensures plain { IfOk result (λ history. IsPlainHistory history.items) }
 {

@@ -29,7 +29,8 @@ fn put_feeds(
 ) -> Result<(), OutOfMemory>
     requires sound { IsSound program.now }
     requires domains { list_all is_sound_domain program.now.domains ≡ true }
-    ensures { OnOk result (out.new.items ≡ out.old.items ++ text_of_lines (flat_map (feed_lines program.now) history.now)) }
+    ensures { OnOk result (out.new.items ≡ out.old.items ++ text_of_lines
+        (flat_map (feed_lines program.now) history.now)) }
 {
     let mut args = Vec::new(alloc);
     for entry in history {
@@ -49,7 +50,8 @@ fn put_block(
     requires within { k ≤ program.now.plan.queries }
     ensures { OnOk result (out.new.items
         ≡ out.old.items
-        ++ text_of_lines (block_of program.now k (map published recognised.now.rows) recognised.now.evaluations)) }
+        ++ text_of_lines (block_of program.now k (map published recognised.now.rows)
+        recognised.now.evaluations)) }
 {
     let plan = &program.plan;
     let q = plan.right(k);
@@ -62,7 +64,8 @@ pub fn report(alloc: Global, program: &Program, script: &Script) -> Result<Vec<u
     requires program { IsDeclared program.now }
     requires domains { list_all is_sound_domain program.now.domains ≡ true }
     requires commands { IsPlainScript (commands_of script.now.commands) }
-    ensures { IfOk result (λ text. text.items ≡ report_text program.now (commands_of script.now.commands) script.now.ignored) }
+    ensures { IfOk result (λ text. text.items ≡ report_text program.now
+        (commands_of script.now.commands) script.now.ignored) }
 {
     let history = history(alloc, &program.plan, script.commands.as_slice())?;
     let recognised = recognise(alloc, program, &history)?;

@@ -142,8 +142,10 @@ pub fn read_script<I: Inputs>(
 ) -> Result<Script, ScriptRefused>
     requires program { IsSound program.now }
     ensures plain { IfOk result (λ script. IsPlainScript (commands_of script.commands)) }
-    ensures ok { IfOk result (λ script. IfSome (I.bytes inputs.old name.now) (λ text. IsScriptOf program.now text script)) }
-    ensures err { IfErr result (IsWhyNoScript (I.bytes inputs.old name.now) (I.faults inputs.old name.now) (I.faults inputs.new name.now) program.now) }
+    ensures ok { IfOk result (λ script. IfSome (I.bytes inputs.old name.now)
+        (λ text. IsScriptOf program.now text script)) }
+    ensures err { IfErr result (IsWhyNoScript (I.bytes inputs.old name.now)
+        (I.faults inputs.old name.now) (I.faults inputs.new name.now) program.now) }
     ensures same { (other : List ℕ) → I.bytes inputs.new other ≡ I.bytes inputs.old other }
     ensures later { (other : List ℕ) → I.faults inputs.old other ≤ I.faults inputs.new other }
 {

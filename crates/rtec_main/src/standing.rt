@@ -13,7 +13,8 @@ use std::alloc::Global;
 // Lets the event of an add stand, unless it was forgotten.
 fn add_entry(store: &mut EventStore, entry: &Entry) -> Result<(), OutOfMemory>
     ensures { OnOk result ((event t : ℕ) →
-        has (standing store.new event) t ≡ (has (standing store.old event) t || counts_for event t entry.now)) }
+        has (standing store.new event) t ≡ (has (standing store.old event) t || counts_for event t
+        entry.now)) }
 {
     match *entry {
         Entry::Fed {
@@ -32,7 +33,8 @@ fn add_entry(store: &mut EventStore, entry: &Entry) -> Result<(), OutOfMemory>
 /// The events that stand at the seal of a plain history. One addition for each entry.
 pub fn store_of(alloc: Global, history: &[Entry]) -> Result<EventStore, OutOfMemory>
     requires { IsPlainHistory history.now }
-    ensures { IfOk result (λ store. (event t : ℕ) → has (standing store event) t ≡ stands (before_seal history.now 0) event t) }
+    ensures { IfOk result (λ store. (event t : ℕ) → has (standing store event) t
+        ≡ stands (before_seal history.now 0) event t) }
 {
     let mut store = EventStore::new(alloc);
     for entry in history {

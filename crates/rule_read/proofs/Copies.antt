@@ -6,13 +6,17 @@ use Rattle.rule_read.specs.Forms.{Union_of, Intersect_of, Complement_of, plain_t
 use Rattle.rule_read.specs.Reading.{expressions}
 use Rattle.rule_read.proofs.Trees.{plain_union, plain_intersect, plain_complement}
 
-pub same_union : (v w : Vec Tree) → map plain_tree v.items ≡ map plain_tree w.items → plain_tree (Union v) ≡ plain_tree (Union w)
+pub same_union : (v w : Vec Tree) → map plain_tree v.items ≡ map plain_tree w.items
+    → plain_tree (Union v) ≡ plain_tree (Union w)
 same_union v w e = plain_union v ∙ ap (λ es. Union_of (expressions es)) e ∙ sym (plain_union w)
 
-pub same_intersect : (v w : Vec Tree) → map plain_tree v.items ≡ map plain_tree w.items → plain_tree (Intersect v) ≡ plain_tree (Intersect w)
-same_intersect v w e = plain_intersect v ∙ ap (λ es. Intersect_of (expressions es)) e ∙ sym (plain_intersect w)
+pub same_intersect : (v w : Vec Tree) → map plain_tree v.items ≡ map plain_tree w.items
+    → plain_tree (Intersect v) ≡ plain_tree (Intersect w)
+same_intersect v w e = plain_intersect v ∙ ap (λ es. Intersect_of (expressions es)) e
+    ∙ sym (plain_intersect w)
 
-pub same_complement : (b d : Box Tree) (v w : Vec Tree) → plain_tree b.value ≡ plain_tree d.value → map plain_tree v.items ≡ map plain_tree w.items
+pub same_complement : (b d : Box Tree) (v w : Vec Tree) → plain_tree b.value ≡ plain_tree d.value
+    → map plain_tree v.items ≡ map plain_tree w.items
     → plain_tree (Complement b v) ≡ plain_tree (Complement d w)
 same_complement b d v w f e =
     plain_complement b v

@@ -15,7 +15,8 @@ front : (a b : Bool) → (a && b) ≡ true → a ≡ true
 front true b h = refl
 front false b h = absurd cc
 
-letters_of_word : (first : ℕ → Bool) (w : List ℕ) → is_word first w ≡ true → list_all is_letter w ≡ true
+letters_of_word : (first : ℕ → Bool) (w : List ℕ) → is_word first w ≡ true → list_all is_letter w
+    ≡ true
 letters_of_word first w h = middle (first_is first w) (list_all is_letter w) _ h
 
 pub letters_of : (k : Kind) (w : List ℕ) → is_of k w ≡ true → list_all is_letter w ≡ true

@@ -1,5 +1,6 @@
 -- The two laws for declarations, atoms, fluent-values, events and conditions.
-use Rattle.std.proofs.Common.{◌≡◌, Bool, true, false, cond, if◌then◌else◌, List, [], ◌∷◌, ◌++◌, Option, Some, None, refl, sym, ap, subst, ◌∙◌, append_assoc, arith}
+use Rattle.std.proofs.Common.{◌≡◌, Bool, true, false, cond, if◌then◌else◌, List, [], ◌∷◌, ◌++◌}
+use Rattle.std.proofs.Common.{Option, Some, None, refl, sym, ap, subst, ◌∙◌, append_assoc, arith}
 use Rattle.rt_base.specs.Kinds.{is_constant}
 use Rattle.rule_read.specs.declared.token.Mark.TheVariants.{Open, Close, Equals, Differs}
 use Rattle.rule_read.specs.declared.keyword.Keyword.{Keyword}
@@ -15,11 +16,18 @@ use Rattle.rule_read.specs.declared.form.Body.{Body}
 use Rattle.rule_read.specs.declared.form.Body.TheVariants as body
 use Rattle.rule_read.specs.Tokens.{Token, Word, Sign}
 use Rattle.rule_read.specs.Words.{is_variable}
-use Rattle.rule_read.specs.Forms.{word_tokens, in_parentheses, decl_tokens, term_tokens, atom_tokens, fv_tokens, event_tokens, unless, body_tokens}
-use Rattle.rule_read.specs.Sound.{IsName, IsSoundDecl, IsSoundTerm, IsSoundAtom, IsSoundFv, IsSoundEvent, IsSoundBody}
-use Rattle.rule_read.specs.Reading.{bind, mapped, has, tail, key_at, word_at, enclosed_at, decl_at, term_at, atom_at, fv_at, event_by, event_at, condition_by, condition_at, unequal_at, body_by, body_at}
-use Rattle.rule_read.proofs.Tools.{bind_with, At, Takes, Again, some_is, finish, join, behind_takes, word_takes, word_again, enclosed_takes, enclosed_again, mapped_takes}
-use Rattle.rule_read.proofs.Keys.{key_takes, key_again, keyed, keyed_takes, name_free, variable_free, variable_no_constant}
+use Rattle.rule_read.specs.Forms.{word_tokens, in_parentheses, decl_tokens, term_tokens}
+use Rattle.rule_read.specs.Forms.{atom_tokens, fv_tokens, event_tokens, unless, body_tokens}
+use Rattle.rule_read.specs.Sound.{IsName, IsSoundDecl, IsSoundTerm, IsSoundAtom, IsSoundFv}
+use Rattle.rule_read.specs.Sound.{IsSoundEvent, IsSoundBody}
+use Rattle.rule_read.specs.Reading.{bind, mapped, has, tail, key_at, word_at, enclosed_at, decl_at}
+use Rattle.rule_read.specs.Reading.{term_at, atom_at, fv_at, event_by, event_at, condition_by}
+use Rattle.rule_read.specs.Reading.{condition_at, unequal_at, body_by, body_at}
+use Rattle.rule_read.proofs.Tools.{bind_with, At, Takes, Again, some_is, finish, join, behind_takes}
+use Rattle.rule_read.proofs.Tools.{word_takes, word_again, enclosed_takes, enclosed_again}
+use Rattle.rule_read.proofs.Tools.{mapped_takes}
+use Rattle.rule_read.proofs.Keys.{key_takes, key_again, keyed, keyed_takes, name_free}
+use Rattle.rule_read.proofs.Keys.{variable_free, variable_no_constant}
 use Rattle.rule_read.proofs.Members.{HasTokens, args_takes, args_again}
 
 -- ---- declarations and atoms
@@ -30,14 +38,22 @@ decl_takes ts y e =
     bind_with e (λ w ew e1. bind_with e1 (λ args ea e2.
     let n = word_takes kind.Name ts w ew in
     let a = args_takes word_tokens IsName (word_at kind.Name) (word_takes kind.Name) w.1 args ea in
-    finish decl_tokens IsSoundDecl ts e2 (n.0 ∙ ap (λ (t : List Token). Word w.0 ∷ t) a.0, (n.1, a.1))))
+    finish decl_tokens IsSoundDecl ts e2 (
+      n.0 ∙ ap (λ (t : List Token). Word w.0 ∷ t) a.0,
+      (n.1, a.1),
+    )))
 
 pub word_some : HasTokens word_tokens
 word_some w = omega arith
 
-pub decl_again : (x : Decl) (rest : List Token) → IsSoundDecl x → has Open rest ≡ false → decl_at (decl_tokens x ++ rest) ≡ Some (x, rest)
+pub decl_again : (x : Decl) (rest : List Token) → IsSoundDecl x → has Open rest ≡ false
+    → decl_at (decl_tokens x ++ rest) ≡ Some (x, rest)
 unfolding decl_at bind
-decl_again x rest h ends = rw (h.0, args_again word_tokens IsName (word_at kind.Name) (word_again kind.Name) word_some x.args rest h.1 ends) refl
+decl_again x rest h ends = rw (
+  h.0,
+  args_again word_tokens IsName (word_at kind.Name)
+      (word_again kind.Name) word_some x.args rest h.1 ends,
+) refl
 
 term_takes : Takes term_tokens IsSoundTerm term_at
 unfolding term_at
@@ -45,12 +61,14 @@ term_takes [] y e = absurd cc
 term_takes (Sign m ∷ ts) y e = absurd cc
 term_takes (Word w ∷ ts) y e = of_constant (is_constant w) refl e
   where
-    of_variable : (b : Bool) → is_variable w ≡ b → cond b (Some (term.Variable w, ts)) None ≡ Some y → At term_tokens IsSoundTerm (Word w ∷ ts) y
+    of_variable : (b : Bool) → is_variable w ≡ b → cond b (Some (term.Variable w, ts)) None
+        ≡ Some y → At term_tokens IsSoundTerm (Word w ∷ ts) y
     of_variable true h e = finish term_tokens IsSoundTerm (Word w ∷ ts) e (refl, h)
     of_variable false h e = absurd cc
 
     of_constant : (b : Bool) → is_constant w ≡ b
-        → cond b (Some (term.Entity w, ts)) (if is_variable w then Some (term.Variable w, ts) else None) ≡ Some y
+        → cond b (Some (term.Entity w, ts)) (if is_variable w then Some (term.Variable w, ts)
+        else None) ≡ Some y
         → At term_tokens IsSoundTerm (Word w ∷ ts) y
     of_constant true h e = finish term_tokens IsSoundTerm (Word w ∷ ts) e (refl, h)
     of_constant false h e = of_variable (is_variable w) refl e
@@ -70,11 +88,19 @@ atom_takes ts y e =
     bind_with e (λ w ew e1. bind_with e1 (λ args ea e2.
     let n = word_takes kind.Name ts w ew in
     let a = args_takes term_tokens IsSoundTerm term_at term_takes w.1 args ea in
-    finish atom_tokens IsSoundAtom ts e2 (n.0 ∙ ap (λ (t : List Token). Word w.0 ∷ t) a.0, (n.1, a.1))))
+    finish atom_tokens IsSoundAtom ts e2 (
+      n.0 ∙ ap (λ (t : List Token). Word w.0 ∷ t) a.0,
+      (n.1, a.1),
+    )))
 
-pub atom_again : (x : Atom) (rest : List Token) → IsSoundAtom x → has Open rest ≡ false → atom_at (atom_tokens x ++ rest) ≡ Some (x, rest)
+pub atom_again : (x : Atom) (rest : List Token) → IsSoundAtom x → has Open rest ≡ false
+    → atom_at (atom_tokens x ++ rest) ≡ Some (x, rest)
 unfolding atom_at bind
-atom_again x rest h ends = rw (h.0, args_again term_tokens IsSoundTerm term_at term_again term_some x.args rest h.1 ends) refl
+atom_again x rest h ends = rw (
+  h.0,
+  args_again term_tokens IsSoundTerm term_at term_again term_some
+      x.args rest h.1 ends,
+) refl
 
 -- ---- fluent-values
 
@@ -111,38 +137,56 @@ event_takes : Takes event_tokens IsSoundEvent event_at
 unfolding event_at
 event_takes ts y e = of_key (key_at ts) refl e
   where
-    of_key : (k : Option Keyword) → key_at ts ≡ k → event_by k ts ≡ Some y → At event_tokens IsSoundEvent ts y
+    of_key : (k : Option Keyword) → key_at ts ≡ k → event_by k ts ≡ Some y
+        → At event_tokens IsSoundEvent ts y
     of_key (Some key.Start) h e =
-        keyed_takes event.Start key.Start head_tokens IsSoundFv (enclosed_at fv_at) head_takes event_tokens IsSoundEvent (λ x. refl) (λ x s. s) ts y h e
+        keyed_takes event.Start key.Start head_tokens IsSoundFv (enclosed_at fv_at) head_takes
+        event_tokens IsSoundEvent (λ x. refl) (λ x s. s) ts y h e
     of_key (Some key.End) h e =
-        keyed_takes event.End key.End head_tokens IsSoundFv (enclosed_at fv_at) head_takes event_tokens IsSoundEvent (λ x. refl) (λ x s. s) ts y h e
-    of_key _ h e = mapped_takes event.Plain atom_tokens IsSoundAtom atom_at atom_takes event_tokens IsSoundEvent (λ x. refl) (λ x s. s) ts y e
+        keyed_takes event.End key.End head_tokens IsSoundFv (enclosed_at fv_at) head_takes
+        event_tokens IsSoundEvent (λ x. refl) (λ x s. s) ts y h e
+    of_key _ h e = mapped_takes event.Plain atom_tokens IsSoundAtom atom_at atom_takes event_tokens
+        IsSoundEvent (λ x. refl) (λ x s. s) ts y e
 
-event_again : (x : EventText) (rest : List Token) → IsSoundEvent x → has Open rest ≡ false → event_at (event_tokens x ++ rest) ≡ Some (x, rest)
+event_again : (x : EventText) (rest : List Token) → IsSoundEvent x → has Open rest ≡ false
+    → event_at (event_tokens x ++ rest) ≡ Some (x, rest)
 unfolding event_at mapped bind
-event_again (event.Plain atom) rest h ends = rw (name_free atom.name h.0, atom_again atom rest h ends) refl
+event_again (event.Plain atom) rest h ends = rw (
+  name_free atom.name h.0,
+  atom_again atom rest h
+      ends,
+) refl
 event_again (event.Start fv) rest h ends = rw (key_again key.Start, head_again fv rest h) refl
 event_again (event.End fv) rest h ends = rw (key_again key.End, head_again fv rest h) refl
 
-condition_takes : (positive : Bool) (ts : List Token) (y : Body × List Token) → condition_at positive ts ≡ Some y
+condition_takes : (positive : Bool) (ts : List Token) (y : Body × List Token)
+    → condition_at positive ts ≡ Some y
     → (unless positive ++ ts ≡ body_tokens y.0 ++ y.1) × IsSoundBody y.0
 unfolding condition_at mapped
 condition_takes positive ts y e = of_key (key_at ts) refl e
   where
-    led : (t : List Token) (r : List Token) → ts ≡ t ++ r → unless positive ++ ts ≡ (unless positive ++ t) ++ r
-    led t r e = ap (λ (x : List Token). unless positive ++ x) e ∙ sym (append_assoc (unless positive) t r)
+    led : (t : List Token) (r : List Token) → ts ≡ t ++ r → unless positive ++ ts
+        ≡ (unless positive ++ t) ++ r
+    led t r e = ap (λ (x : List Token). unless positive ++ x) e
+        ∙ sym (append_assoc (unless positive) t r)
 
     of_key : (k : Option Keyword) → key_at ts ≡ k → condition_by k positive ts ≡ Some y
         → (unless positive ++ ts ≡ body_tokens y.0 ++ y.1) × IsSoundBody y.0
     of_key (Some key.HappensAt) h e =
         bind_with e (λ ev eev e1.
         let t = enclosed_takes event_tokens IsSoundEvent event_at event_takes (tail ts) ev eev in
-        let P : Body × List Token → Type 0 = λ y. (unless positive ++ ts ≡ body_tokens y.0 ++ y.1) × IsSoundBody y.0 in
-        subst P (some_is e1) (led _ ev.1 (keyed ts (in_parentheses (event_tokens ev.0)) ev.1 key.HappensAt h t.0), t.1))
+        let P : Body × List Token → Type 0 = λ y. (unless positive ++ ts ≡ body_tokens y.0 ++ y.1)
+        × IsSoundBody y.0 in
+        subst P (some_is e1) (
+          led _ ev.1 (keyed ts (in_parentheses (event_tokens ev.0)) ev.1
+              key.HappensAt h t.0),
+          t.1,
+        ))
     of_key (Some key.HoldsAt) h e =
         bind_with e (λ fv ef e1.
         let t = head_takes (tail ts) fv ef in
-        let P : Body × List Token → Type 0 = λ y. (unless positive ++ ts ≡ body_tokens y.0 ++ y.1) × IsSoundBody y.0 in
+        let P : Body × List Token → Type 0 = λ y. (unless positive ++ ts ≡ body_tokens y.0 ++ y.1)
+        × IsSoundBody y.0 in
         subst P (some_is e1) (led _ fv.1 (keyed ts (head_tokens fv.0) fv.1 key.HoldsAt h t.0), t.1))
     of_key _ h e = absurd cc
 
@@ -162,21 +206,40 @@ pub body_takes : Takes body_tokens IsSoundBody body_at
 unfolding body_at
 body_takes ts y e = of_key (key_at ts) refl e
   where
-    of_key : (k : Option Keyword) → key_at ts ≡ k → body_by k ts ≡ Some y → At body_tokens IsSoundBody ts y
-    of_key (Some key.Not) h e = let t = condition_takes false (tail ts) y e in (key_takes ts key.Not h ∙ t.0, t.1)
+    of_key : (k : Option Keyword) → key_at ts ≡ k → body_by k ts ≡ Some y
+        → At body_tokens IsSoundBody ts y
+    of_key (Some key.Not) h e = let t = condition_takes false (tail ts) y e in
+        (key_takes ts key.Not h ∙ t.0, t.1)
     of_key None h e = unequal_takes ts y e
     of_key (Some _) h e = condition_takes true ts y e
 
 happens_again : (ev : EventText) (rest : List Token) → IsSoundEvent ev
     → enclosed_at event_at (in_parentheses (event_tokens ev) ++ rest) ≡ Some (ev, rest)
-happens_again ev rest h = enclosed_again event_at (event_tokens ev) rest ev (event_again ev (Sign Close ∷ rest) h refl)
+happens_again ev rest h = enclosed_again event_at (event_tokens ev) rest ev
+    (event_again ev (Sign Close ∷ rest) h refl)
 
 pub body_again : Again body_tokens IsSoundBody body_at
 unfolding body_at condition_at unequal_at mapped bind
-body_again (body.Happens true ev) rest h = rw (key_again key.HappensAt, key_again key.HappensAt, happens_again ev rest h) refl
-body_again (body.Happens false ev) rest h = rw (key_again key.Not, key_again key.HappensAt, happens_again ev rest h) refl
-body_again (body.Holds true fv) rest h = rw (key_again key.HoldsAt, key_again key.HoldsAt, head_again fv rest h) refl
-body_again (body.Holds false fv) rest h = rw (key_again key.Not, key_again key.HoldsAt, head_again fv rest h) refl
+body_again (body.Happens true ev) rest h = rw (
+  key_again key.HappensAt,
+  key_again key.HappensAt,
+  happens_again ev rest h,
+) refl
+body_again (body.Happens false ev) rest h = rw (
+  key_again key.Not,
+  key_again key.HappensAt,
+  happens_again ev rest h,
+) refl
+body_again (body.Holds true fv) rest h = rw (
+  key_again key.HoldsAt,
+  key_again key.HoldsAt,
+  head_again fv rest h,
+) refl
+body_again (body.Holds false fv) rest h = rw (
+  key_again key.Not,
+  key_again key.HoldsAt,
+  head_again fv rest h,
+) refl
 body_again (body.Unequal x z) rest h = rw (variable_free x h.0, h.0, h.1) refl
 
 pub body_some : HasTokens body_tokens

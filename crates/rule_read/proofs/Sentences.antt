@@ -11,7 +11,8 @@ pub one_more_token : (old new : ℕ) (ts : List Token) (t : Token) (ss : List Se
 one_more_token old new [] t ss = refl
 one_more_token old new (u ∷ ts) t [] = refl
 one_more_token old new (u ∷ ts) t (s ∷ ss) =
-    ap (λ (x : List Token). record { line = old; tokens = u ∷ x; whole = s.whole } ∷ ss) (sym (append_assoc ts (t ∷ []) s.tokens))
+    ap (λ (x : List Token). record { line = old; tokens = u ∷ x; whole = s.whole } ∷ ss)
+    (sym (append_assoc ts (t ∷ []) s.tokens))
 
 pub shorter_still : (x : Lexeme) (a b c : ℕ) → Shorter x b c → b ≤ a → Shorter x a c
 shorter_still lexeme.End a b c h le = tt

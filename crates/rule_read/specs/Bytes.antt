@@ -2,9 +2,12 @@
 use Rattle.std.specs.Prelude.{ℕ, ◌||◌, ◌==◌, if◌then◌else◌}
 use Rattle.rt_base.specs.Kinds.{is_letter}
 use Rattle.rule_read.specs.declared.token.Class.{Class}
-use Rattle.rule_read.specs.declared.token.Class.TheVariants.{Letter, Line, Gap, Percent, Open, Close, OpenList, CloseList, Comma, Dot, Equals, Colon, Dash, Backslash, Other}
+use Rattle.rule_read.specs.declared.token.Class.TheVariants.{Letter, Line, Gap, Percent, Open}
+use Rattle.rule_read.specs.declared.token.Class.TheVariants.{Close, OpenList, CloseList, Comma, Dot}
+use Rattle.rule_read.specs.declared.token.Class.TheVariants.{Equals, Colon, Dash, Backslash, Other}
 
--- A line feed is 10; a space, a tab and a carriage return are 32, 9 and 13; then come % ( ) [ ] , . = : - and \ in this order.
+-- A line feed is 10; a space, a tab and a carriage return are 32, 9 and 13; then come % ( ) [ ] , .
+-- = : - and \ in this order.
 unfoldable pub class_of : ℕ → Class
 class_of b =
     if is_letter b then Letter

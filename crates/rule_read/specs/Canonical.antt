@@ -1,7 +1,10 @@
--- The canonical text: one statement a line, and which two neighbouring tokens have a space between them.
-use Rattle.std.specs.Prelude.{ℕ, Bool, true, false, ◌||◌, ◌&&◌, List, [], ◌∷◌, ◌++◌, flat_map, ◌+◌, if◌then◌else◌}
+-- The canonical text: one statement a line, and which two neighbouring tokens have a space between
+-- them.
+use Rattle.std.specs.Prelude.{ℕ, Bool, true, false, ◌||◌, ◌&&◌, List, [], ◌∷◌, ◌++◌, flat_map, ◌+◌}
+use Rattle.std.specs.Prelude.{if◌then◌else◌}
 use Rattle.rule_read.specs.declared.token.Mark.{Mark}
-use Rattle.rule_read.specs.declared.token.Mark.TheVariants.{Open, Close, OpenList, CloseList, Comma, Equals, If, Differs, Stray}
+use Rattle.rule_read.specs.declared.token.Mark.TheVariants.{Open, Close, OpenList, CloseList, Comma}
+use Rattle.rule_read.specs.declared.token.Mark.TheVariants.{Equals, If, Differs, Stray}
 use Rattle.rule_read.specs.Tokens.{Token, Word, Sign}
 use Rattle.rule_read.specs.Forms.{PlainForm, PlainStatement, form_tokens}
 
@@ -39,18 +42,21 @@ abbrev pub is_close : Mark → Bool
 is_close Close = true
 is_close _ = false
 
--- A space stands between two words, behind a comma, on each side of :- and \=, and before a [ that follows a word or a ).
+-- A space stands between two words, behind a comma, on each side of :- and \=, and before a [ that
+-- follows a word or a ).
 abbrev pub space_between : Token → Token → Bool
 space_between (Word v) (Word w) = true
 space_between (Word v) (Sign n) = is_spaced n || opens_list n
 space_between (Sign m) (Word w) = is_spaced m || is_comma m
-space_between (Sign m) (Sign n) = is_spaced m || is_comma m || is_spaced n || is_close m && opens_list n
+space_between (Sign m) (Sign n) = is_spaced m || is_comma m || is_spaced n || is_close m
+    && opens_list n
 
 -- the bytes of the tokens, a dot and the end of the line
 unfoldable pub line_of : List Token → List ℕ
 line_of [] = 46 ∷ 10 ∷ []
 line_of (t ∷ []) = token_bytes t ++ (46 ∷ 10 ∷ [])
-line_of (t ∷ u ∷ ts) = token_bytes t ++ (if space_between t u then 32 ∷ line_of (u ∷ ts) else line_of (u ∷ ts))
+line_of (t ∷ u ∷ ts) = token_bytes t ++ (if space_between t u then 32 ∷ line_of (u ∷ ts)
+    else line_of (u ∷ ts))
 
 -- the canonical text of forms
 abbrev pub text_of : List PlainForm → List ℕ

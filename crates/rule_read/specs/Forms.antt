@@ -1,6 +1,7 @@
 -- What statements say as plain data, and the tokens of each form.
 use Rattle.std.specs.Prelude.{ℕ, Bool, true, false, List, [], ◌∷◌, ◌++◌, map, decimal}
-use Rattle.rule_read.specs.declared.token.Mark.TheVariants.{Open, Close, OpenList, CloseList, Comma, Equals, If, Differs}
+use Rattle.rule_read.specs.declared.token.Mark.TheVariants.{Open, Close, OpenList, CloseList, Comma}
+use Rattle.rule_read.specs.declared.token.Mark.TheVariants.{Equals, If, Differs}
 use Rattle.rule_read.specs.declared.keyword.Keyword.{Keyword}
 use Rattle.rule_read.specs.declared.keyword.Keyword.TheVariants as key
 use Rattle.rule_read.specs.declared.form.Decl.{Decl}
@@ -14,7 +15,8 @@ use Rattle.rule_read.specs.declared.form.Body.{Body}
 use Rattle.rule_read.specs.declared.form.Body.TheVariants as body
 use Rattle.rule_read.specs.declared.form.Form.{Form}
 use Rattle.rule_read.specs.declared.form.Form.TheVariants as form
-use Rattle.rule_read.specs.declared.form.Tree.{Tree, Leaf, Union', Intersect', Complement', Row_of-Tree, end_of-Tree, more_of-Tree}
+use Rattle.rule_read.specs.declared.form.Tree.{Tree, Leaf, Union', Intersect', Complement'}
+use Rattle.rule_read.specs.declared.form.Tree.{Row_of-Tree, end_of-Tree, more_of-Tree}
 use Rattle.rule_read.specs.declared.syntax.Statement.{Statement}
 use Rattle.rule_read.specs.Tokens.{Token, Word, Sign}
 use Rattle.rule_read.specs.Words.{spelled}
@@ -37,7 +39,8 @@ abbrev mutual
   plain_tree (Leaf fv) = Value_of fv
   plain_tree (Union' shape members) = Union_of (plain_row members)
   plain_tree (Intersect' shape members) = Intersect_of (plain_row members)
-  plain_tree (Complement' p first shape others) = Complement_of (plain_tree first) (plain_row others)
+  plain_tree (Complement' p first shape others) = Complement_of (plain_tree first)
+      (plain_row others)
 
   pub plain_row : {m : _} → Row_of-Tree m → Expressions
   plain_row end_of-Tree = none
@@ -130,17 +133,22 @@ unless true = []
 unless false = keyword key.Not ∷ []
 
 abbrev pub body_tokens : Body → List Token
-body_tokens (body.Happens positive event) = unless positive ++ (keyword key.HappensAt ∷ in_parentheses (event_tokens event))
-body_tokens (body.Holds positive fv) = unless positive ++ (keyword key.HoldsAt ∷ in_parentheses (fv_tokens fv))
+body_tokens (body.Happens positive event) =
+    unless positive ++ (keyword key.HappensAt ∷ in_parentheses (event_tokens event))
+body_tokens (body.Holds positive fv) = unless positive ++ (keyword key.HoldsAt ∷ in_parentheses
+    (fv_tokens fv))
 body_tokens (body.Unequal x y) = Word x ∷ Sign Differs ∷ Word y ∷ []
 
 abbrev mutual
   pub expression_tokens : Expression → List Token
   expression_tokens (Value_of fv) = fv_tokens fv
-  expression_tokens (Union_of es) = keyword key.UnionAll ∷ in_parentheses (in_brackets (row_tokens es))
-  expression_tokens (Intersect_of es) = keyword key.IntersectAll ∷ in_parentheses (in_brackets (row_tokens es))
+  expression_tokens (Union_of es) = keyword key.UnionAll ∷ in_parentheses
+      (in_brackets (row_tokens es))
+  expression_tokens (Intersect_of es) = keyword key.IntersectAll ∷ in_parentheses
+      (in_brackets (row_tokens es))
   expression_tokens (Complement_of e es) =
-      keyword key.RelativeComplementAll ∷ in_parentheses (expression_tokens e ++ (Sign Comma ∷ in_brackets (row_tokens es)))
+      keyword key.RelativeComplementAll ∷ in_parentheses (expression_tokens e
+      ++ (Sign Comma ∷ in_brackets (row_tokens es)))
 
   pub row_tokens : Expressions → List (List Token)
   row_tokens none = []
@@ -160,13 +168,19 @@ form_tokens (Window n) = number_tokens key.Window (decimal n)
 form_tokens (Step n) = number_tokens key.Step (decimal n)
 form_tokens (From n) = number_tokens key.From (decimal n)
 form_tokens (Queries n) = number_tokens key.Queries (decimal n)
-form_tokens (Domain name entities) = keyword key.Domain ∷ Word name ∷ in_brackets (map word_tokens entities)
+form_tokens (Domain name entities) = keyword key.Domain ∷ Word name ∷ in_brackets
+    (map word_tokens entities)
 form_tokens (Input decl) = keyword key.Input ∷ decl_tokens decl
-form_tokens (Simple decl values) = keyword key.Simple ∷ (decl_tokens decl ++ in_brackets (map word_tokens values))
-form_tokens (Static decl values) = keyword key.Static ∷ (decl_tokens decl ++ in_brackets (map word_tokens values))
+form_tokens (Simple decl values) = keyword key.Simple ∷ (decl_tokens decl ++ in_brackets
+    (map word_tokens values))
+form_tokens (Static decl values) = keyword key.Static ∷ (decl_tokens decl ++ in_brackets
+    (map word_tokens values))
 form_tokens (Derived decl) = keyword key.Derived ∷ decl_tokens decl
 form_tokens (Initially fv) = keyword key.Initially ∷ in_parentheses (fv_tokens fv)
-form_tokens (Initiated fv bodies) = rule_tokens key.InitiatedAt (fv_tokens fv) (commas (map body_tokens bodies))
-form_tokens (Terminated fv bodies) = rule_tokens key.TerminatedAt (fv_tokens fv) (commas (map body_tokens bodies))
-form_tokens (Happens atom bodies) = rule_tokens key.HappensAt (atom_tokens atom) (commas (map body_tokens bodies))
+form_tokens (Initiated fv bodies) = rule_tokens key.InitiatedAt (fv_tokens fv)
+    (commas (map body_tokens bodies))
+form_tokens (Terminated fv bodies) = rule_tokens key.TerminatedAt (fv_tokens fv)
+    (commas (map body_tokens bodies))
+form_tokens (Happens atom bodies) = rule_tokens key.HappensAt (atom_tokens atom)
+    (commas (map body_tokens bodies))
 form_tokens (HoldsFor fv e) = rule_tokens key.HoldsFor (fv_tokens fv) (expression_tokens e)

@@ -5,12 +5,14 @@ use Rattle.rule_read.specs.declared.keyword.Keyword.TheVariants as key
 use Rattle.rule_read.specs.Tokens.{Token}
 use Rattle.rule_read.specs.Sentences.{Sentence, sentences_of, bad_byte_of}
 use Rattle.rule_read.specs.Words.{is_number, number_of}
-use Rattle.rule_read.specs.Forms.{PlainForm, PlainStatement, Window, Step, From, Queries, form_tokens, number_tokens}
+use Rattle.rule_read.specs.Forms.{PlainForm, PlainStatement, Window, Step, From, Queries}
+use Rattle.rule_read.specs.Forms.{form_tokens, number_tokens}
 use Rattle.rule_read.specs.Sound.{AllOf, IsSoundForm}
 
 -- digits of the number, leading zeros or not, in a statement of this word
 abbrev pub SpellsNumber : Keyword → ℕ → List Token → Type 0
-SpellsNumber k n ts = (digits : List ℕ) × (is_number digits ≡ true) × (number_of digits ≡ n) × (ts ≡ number_tokens k digits)
+SpellsNumber k n ts = (digits : List ℕ) × (is_number digits ≡ true) × (number_of digits ≡ n)
+    × (ts ≡ number_tokens k digits)
 
 -- Tokens before a dot spell a form where they are its tokens, leading zeros of a number aside.
 abbrev pub SpellsForm : List Token → PlainForm → Type 0

@@ -33,11 +33,14 @@ abbrev pub line_then : List Token → ℕ → ℕ → ℕ
 line_then [] old new = new
 line_then (t ∷ ts) old new = old
 
--- What stood before, where a statement ended with these tokens, the first of them or the dot on a line.
+-- What stood before, where a statement ended with these tokens, the first of them or the dot on a
+-- line.
 abbrev pub Ended : List Placed → Ending → ℕ → List Token → List Placed → Type 0
 Ended before ending.Dot line ts after =
-    (sentences before ≡ lead line ts (record { line = line; tokens = []; whole = true } ∷ sentences after)) × (first_bad before ≡ first_bad after)
-Ended before ending.End line ts after = (sentences before ≡ lead line ts []) × (first_bad before ≡ None)
+    (sentences before ≡ lead line ts (record { line = line; tokens = []; whole = true } ∷ sentences
+    after)) × (first_bad before ≡ first_bad after)
+Ended before ending.End line ts after = (sentences before ≡ lead line ts [])
+    × (first_bad before ≡ None)
 Ended before ending.Bad line ts after = first_bad before ≡ Some line
 
 abbrev pub Shorter : Lexeme → ℕ → ℕ → Type 0

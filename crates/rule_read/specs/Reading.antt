@@ -1,7 +1,9 @@
 -- Reading tokens from left to right: the value at the front, and the tokens behind it.
-use Rattle.std.specs.Prelude.{◌≡◌, ℕ, zero, suc, Bool, true, false, ◌==◌, List, [], ◌∷◌, ◌++◌, length, Option, Some, None, Result, Ok, Err, if◌then◌else◌}
+use Rattle.std.specs.Prelude.{◌≡◌, ℕ, zero, suc, Bool, true, false, ◌==◌, List, [], ◌∷◌, ◌++◌}
+use Rattle.std.specs.Prelude.{length, Option, Some, None, Result, Ok, Err, if◌then◌else◌}
 use Rattle.rule_read.specs.declared.token.Mark.{Mark}
-use Rattle.rule_read.specs.declared.token.Mark.TheVariants.{Open, Close, OpenList, CloseList, Comma, Equals, If, Differs, Stray}
+use Rattle.rule_read.specs.declared.token.Mark.TheVariants.{Open, Close, OpenList, CloseList, Comma}
+use Rattle.rule_read.specs.declared.token.Mark.TheVariants.{Equals, If, Differs, Stray}
 use Rattle.rule_read.specs.declared.keyword.Keyword.{Keyword}
 use Rattle.rule_read.specs.declared.keyword.Keyword.TheVariants as key
 use Rattle.rule_read.specs.declared.keyword.Kind.{Kind}
@@ -20,7 +22,10 @@ use Rattle.rule_read.specs.declared.stop.Stop.TheVariants.{NoForm, OutOfMemory}
 use Rattle.rt_base.specs.Kinds.{is_constant}
 use Rattle.rule_read.specs.Tokens.{Token, Word, Sign}
 use Rattle.rule_read.specs.Words.{keyword_of, is_variable, is_of, is_number, number_of}
-use Rattle.rule_read.specs.Forms.{Expression, Expressions, none, more, Value_of, Union_of, Intersect_of, Complement_of, PlainForm, Window, Step, From, Queries, Domain, Input, Simple, Static, Derived, Initially, Initiated, Terminated, Happens, HoldsFor}
+use Rattle.rule_read.specs.Forms.{Expression, Expressions, none, more, Value_of, Union_of}
+use Rattle.rule_read.specs.Forms.{Intersect_of, Complement_of, PlainForm, Window, Step, From}
+use Rattle.rule_read.specs.Forms.{Queries, Domain, Input, Simple, Static, Derived, Initially}
+use Rattle.rule_read.specs.Forms.{Initiated, Terminated, Happens, HoldsFor}
 
 -- what reads a value at the front of some tokens
 abbrev pub Part : Type 0 → Type 0
@@ -40,8 +45,10 @@ abbrev pub Stops : {Y : Type 0} → Stop → Option Y → Type 0
 Stops OutOfMemory read = Unit {0}
 Stops NoForm read = read ≡ None
 
--- What a reader returned, seen by view, and the tokens that it left, are what reading gives, unless memory ran out.
-abbrev pub Reads : {X Y : Type 0} → (X → Y) → Result X Stop → List Token → Option (Y × List Token) → Type 0
+-- What a reader returned, seen by view, and the tokens that it left, are what reading gives, unless
+-- memory ran out.
+abbrev pub Reads : {X Y : Type 0} → (X → Y) → Result X Stop → List Token → Option (Y × List Token)
+    → Type 0
 Reads view (Ok x) after read = read ≡ Some (view x, after)
 Reads view (Err e) after read = Stops e read
 
@@ -104,9 +111,11 @@ key_at (Word w ∷ ts) = keyword_of w
 abbrev pub list_at : {A : Type 0} → Part A → ℕ → Part (List A)
 list_at at zero ts = None
 list_at at (suc n) ts =
-    bind (at ts) (λ x. if has Comma x.1 then (bind (list_at at n (tail x.1)) (λ xs. Some (x.0 ∷ xs.0, xs.1))) else Some (x.0 ∷ [], x.1))
+    bind (at ts) (λ x. if has Comma x.1 then (bind (list_at at n (tail x.1))
+    (λ xs. Some (x.0 ∷ xs.0, xs.1))) else Some (x.0 ∷ [], x.1))
 
-abbrev pub with_front : {A : Type 0} → List A → Option (List A × List Token) → Option (List A × List Token)
+abbrev pub with_front : {A : Type 0} → List A → Option (List A × List Token)
+    → Option (List A × List Token)
 with_front front read = bind (read) (λ x. Some (front ++ x.0, x.1))
 
 -- one member or more
@@ -115,17 +124,20 @@ members_at at ts = list_at at (length ts) ts
 
 -- in parentheses
 unfoldable pub enclosed_at : {A : Type 0} → Part A → Part A
-enclosed_at at ts = bind (behind Open ts) (λ rest. bind (at rest) (λ x. bind (behind Close x.1) (λ rest. Some (x.0, rest))))
+enclosed_at at ts = bind (behind Open ts) (λ rest. bind (at rest) (λ x. bind (behind Close x.1)
+    (λ rest. Some (x.0, rest))))
 
 -- members in brackets
 unfoldable pub row_at : {A : Type 0} → Part A → Part (List A)
-row_at at ts = bind (behind OpenList ts) (λ rest. bind (members_at at rest) (λ xs. bind (behind CloseList xs.1) (λ rest. Some (xs.0, rest))))
+row_at at ts = bind (behind OpenList ts) (λ rest. bind (members_at at rest)
+    (λ xs. bind (behind CloseList xs.1) (λ rest. Some (xs.0, rest))))
 
 -- members in brackets, or nothing in them
 unfoldable pub any_row_at : {A : Type 0} → Part A → Part (List A)
 any_row_at at ts =
     bind (behind OpenList ts) (λ rest. if has CloseList rest then Some ([], tail rest)
-    else (bind (members_at at rest) (λ xs. bind (behind CloseList xs.1) (λ rest. Some (xs.0, rest)))))
+    else (bind (members_at at rest) (λ xs. bind (behind CloseList xs.1)
+    (λ rest. Some (xs.0, rest)))))
 
 -- arguments in parentheses, or none
 unfoldable pub args_at : {A : Type 0} → Part A → Part (List A)
@@ -135,20 +147,26 @@ args_at at ts = if has Open ts then enclosed_at (members_at at) ts else Some ([]
 
 unfoldable pub decl_at : Part Decl
 decl_at ts =
-    bind (word_at kind.Name ts) (λ name. bind (args_at (word_at kind.Name) name.1) (λ args. Some (record { name = name.0; args = args.0 }, args.1)))
+    bind (word_at kind.Name ts) (λ name. bind (args_at (word_at kind.Name) name.1)
+    (λ args. Some (record { name = name.0; args = args.0 }, args.1)))
 
 unfoldable pub term_at : Part Term
 term_at [] = None
 term_at (Sign m ∷ ts) = None
-term_at (Word w ∷ ts) = if is_constant w then Some (term.Entity w, ts) else if is_variable w then Some (term.Variable w, ts) else None
+term_at (Word w ∷ ts) = if is_constant w then Some (term.Entity w, ts) else if is_variable w
+    then Some (term.Variable w, ts) else None
 
 unfoldable pub atom_at : Part Atom
-atom_at ts = bind (word_at kind.Name ts) (λ name. bind (args_at term_at name.1) (λ args. Some (record { name = name.0; args = args.0 }, args.1)))
+atom_at ts = bind (word_at kind.Name ts) (λ name. bind (args_at term_at name.1)
+    (λ args. Some (record { name = name.0; args = args.0 }, args.1)))
 
 unfoldable pub fv_at : Part Fv
 fv_at ts =
     bind (atom_at ts) (λ atom. bind (behind Equals atom.1) (λ rest.
-    bind (word_at kind.Constant rest) (λ value. Some (record { atom = atom.0; value = value.0 }, value.1))))
+    bind (word_at kind.Constant rest) (λ value. Some (
+      record { atom = atom.0; value = value.0 },
+      value.1,
+    ))))
 
 abbrev pub event_by : Option Keyword → Part EventText
 event_by (Some key.Start) ts = mapped event.Start (enclosed_at fv_at) (tail ts)
@@ -159,8 +177,10 @@ unfoldable pub event_at : Part EventText
 event_at ts = event_by (key_at ts) ts
 
 abbrev pub condition_by : Option Keyword → Bool → Part Body
-condition_by (Some key.HappensAt) positive ts = mapped (body.Happens positive) (enclosed_at event_at) (tail ts)
-condition_by (Some key.HoldsAt) positive ts = mapped (body.Holds positive) (enclosed_at fv_at) (tail ts)
+condition_by (Some key.HappensAt) positive ts = mapped (body.Happens positive)
+    (enclosed_at event_at) (tail ts)
+condition_by (Some key.HoldsAt) positive ts = mapped (body.Holds positive) (enclosed_at fv_at)
+    (tail ts)
 condition_by _ positive ts = None
 
 unfoldable pub condition_at : Bool → Part Body
@@ -190,13 +210,17 @@ value_at ts = mapped Value_of fv_at ts
 
 -- an expression, a comma, and expressions in brackets
 unfoldable pub pair_at : Part Expression → Part (Expression × List Expression)
-pair_at member ts = bind (member ts) (λ e. bind (behind Comma e.1) (λ rest. bind (row_at member rest) (λ es. Some ((e.0, es.0), es.1))))
+pair_at member ts = bind (member ts) (λ e. bind (behind Comma e.1)
+    (λ rest. bind (row_at member rest) (λ es. Some ((e.0, es.0), es.1))))
 
 -- a construct over these members, or an FV
 abbrev pub construct_by : Option Keyword → Part Expression → Part Expression
-construct_by (Some key.UnionAll) member ts = mapped (λ es. Union_of (expressions es)) (enclosed_at (row_at member)) (tail ts)
-construct_by (Some key.IntersectAll) member ts = mapped (λ es. Intersect_of (expressions es)) (enclosed_at (row_at member)) (tail ts)
-construct_by (Some key.RelativeComplementAll) member ts = mapped (λ x. Complement_of x.0 (expressions x.1)) (enclosed_at (pair_at member)) (tail ts)
+construct_by (Some key.UnionAll) member ts = mapped (λ es. Union_of (expressions es))
+    (enclosed_at (row_at member)) (tail ts)
+construct_by (Some key.IntersectAll) member ts = mapped (λ es. Intersect_of (expressions es))
+    (enclosed_at (row_at member)) (tail ts)
+construct_by (Some key.RelativeComplementAll) member ts =
+    mapped (λ x. Complement_of x.0 (expressions x.1)) (enclosed_at (pair_at member)) (tail ts)
 construct_by _ member ts = value_at ts
 
 unfoldable pub construct_at : Part Expression → Part Expression
@@ -218,23 +242,27 @@ numbered_at ts = enclosed_at number_at ts
 
 -- a declaration and its values
 unfoldable pub valued_at : Part (Decl × List (List ℕ))
-valued_at ts = bind (decl_at ts) (λ decl. bind (row_at (word_at kind.Constant) decl.1) (λ values. Some ((decl.0, values.0), values.1)))
+valued_at ts = bind (decl_at ts) (λ decl. bind (row_at (word_at kind.Constant) decl.1) (λ values.
+    Some ((decl.0, values.0), values.1)))
 
 -- the name of a domain and its entities
 unfoldable pub domain_at : Part (List ℕ × List (List ℕ))
 domain_at ts =
-    bind (word_at kind.Name ts) (λ name. bind (any_row_at (word_at kind.Constant) name.1) (λ entities. Some ((name.0, entities.0), entities.1)))
+    bind (word_at kind.Name ts) (λ name. bind (any_row_at (word_at kind.Constant) name.1)
+    (λ entities. Some ((name.0, entities.0), entities.1)))
 
 unfoldable pub conditions_at : Part (List Body)
 conditions_at ts = bind (behind If ts) (λ rest. members_at body_at rest)
 
 -- a head in parentheses, and conditions
 unfoldable pub rule_at : {A : Type 0} → Part A → Part (A × List Body)
-rule_at head ts = bind (enclosed_at head ts) (λ head. bind (conditions_at head.1) (λ bodies. Some ((head.0, bodies.0), bodies.1)))
+rule_at head ts = bind (enclosed_at head ts) (λ head. bind (conditions_at head.1) (λ bodies.
+    Some ((head.0, bodies.0), bodies.1)))
 
 -- a head in parentheses, and an expression
 unfoldable pub static_at : Part (Fv × Expression)
-static_at ts = bind (enclosed_at fv_at ts) (λ fv. bind (behind If fv.1) (λ rest. bind (expression_at 8 rest) (λ e. Some ((fv.0, e.0), e.1))))
+static_at ts = bind (enclosed_at fv_at ts) (λ fv. bind (behind If fv.1)
+    (λ rest. bind (expression_at 8 rest) (λ e. Some ((fv.0, e.0), e.1))))
 
 abbrev pub form_by : Option Keyword → Part PlainForm
 form_by (Some key.Window) ts = mapped Window numbered_at ts

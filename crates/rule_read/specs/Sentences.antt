@@ -2,17 +2,23 @@
 use Rattle.std.specs.Prelude.{ℕ, Bool, true, false, List, [], ◌∷◌, ◌++◌, Option, Some, None}
 use Rattle.rule_read.specs.Tokens.{Token, Said, Dot, Bad, Placed, pieces}
 
--- the tokens of a statement before its dot, whether the dot is there, and the line where it begins, be it with the dot
+-- the tokens of a statement before its dot, whether the dot is there, and the line where it begins,
+-- be it with the dot
 pub record Sentence : Type 0 where
   pub line : ℕ
   pub tokens : List Token
   pub whole : Bool
 
--- Tokens that begin on a line, before some statements: they belong to the first of these, or to one without a dot.
+-- Tokens that begin on a line, before some statements: they belong to the first of these, or to one
+-- without a dot.
 abbrev pub lead : ℕ → List Token → List Sentence → List Sentence
 lead line [] ss = ss
 lead line (t ∷ ts) [] = record { line = line; tokens = t ∷ ts; whole = false } ∷ []
-lead line (t ∷ ts) (s ∷ ss) = record { line = line; tokens = (t ∷ ts) ++ s.tokens; whole = s.whole } ∷ ss
+lead line (t ∷ ts) (s ∷ ss) = record {
+  line = line;
+  tokens = (t ∷ ts) ++ s.tokens;
+  whole = s.whole;
+} ∷ ss
 
 unfoldable pub sentences : List Placed → List Sentence
 sentences [] = []

@@ -1,5 +1,5 @@
--- Which forms are sound: words of their kinds, a member where a list needs one, numbers of at most 16 digits, and at most eight
--- constructs inside one another.
+-- Which forms are sound: words of their kinds, a member where a list needs one, numbers of at most
+-- 16 digits, and at most eight constructs inside one another.
 use Rattle.std.specs.Prelude.{◌≡◌, ◌<◌, ◌^◌, ℕ, zero, suc, true, List, [], ◌∷◌, length}
 use Rattle.rt_base.specs.Kinds.{is_name, is_constant}
 use Rattle.rule_read.specs.declared.form.Decl.{Decl}
@@ -14,7 +14,10 @@ use Rattle.rule_read.specs.declared.form.Body.TheVariants as body
 use Rattle.rule_read.specs.declared.syntax.Syntax.{Syntax}
 use Rattle.rule_read.specs.declared.syntax.Statement.{Statement}
 use Rattle.rule_read.specs.Words.{is_variable}
-use Rattle.rule_read.specs.Forms.{Expression, Expressions, Value_of, Union_of, Intersect_of, Complement_of, none, more, PlainForm, plain_form, Window, Step, From, Queries, Domain, Input, Simple, Static, Derived, Initially, Initiated, Terminated, Happens, HoldsFor}
+use Rattle.rule_read.specs.Forms.{Expression, Expressions, Value_of, Union_of, Intersect_of}
+use Rattle.rule_read.specs.Forms.{Complement_of, none, more, PlainForm, plain_form, Window, Step}
+use Rattle.rule_read.specs.Forms.{From, Queries, Domain, Input, Simple, Static, Derived, Initially}
+use Rattle.rule_read.specs.Forms.{Initiated, Terminated, Happens, HoldsFor}
 
 -- each of them is so
 abbrev pub AllOf : {A : Type 0} → (A → Type 0) → List A → Type 0
@@ -71,7 +74,8 @@ abbrev mutual
   IsSoundExpression zero (Complement_of e es) = ⊥
   IsSoundExpression (suc depth) (Union_of es) = AreSoundMembers depth es
   IsSoundExpression (suc depth) (Intersect_of es) = AreSoundMembers depth es
-  IsSoundExpression (suc depth) (Complement_of e es) = IsSoundExpression depth e × AreSoundMembers depth es
+  IsSoundExpression (suc depth) (Complement_of e es) = IsSoundExpression depth e
+      × AreSoundMembers depth es
 
   pub AreSoundMembers : ℕ → Expressions → Type 0
   AreSoundMembers depth none = ⊥

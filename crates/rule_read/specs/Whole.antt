@@ -1,5 +1,6 @@
 -- What a whole text reads as.
-use Rattle.std.specs.Prelude.{◌≡◌, ◌≤◌, ◌<◌, ℕ, nat_lt, List, [], ◌∷◌, ◌++◌, length, map, Option, Some, None, Result, Ok, Err, if◌then◌else◌}
+use Rattle.std.specs.Prelude.{◌≡◌, ◌≤◌, ◌<◌, ℕ, nat_lt, List, [], ◌∷◌, ◌++◌, length, map, Option}
+use Rattle.std.specs.Prelude.{Some, None, Result, Ok, Err, if◌then◌else◌}
 use Rattle.rule_read.specs.declared.syntax.Syntax.{Syntax}
 use Rattle.rule_read.specs.declared.syntax.ReadRefused.{ReadRefused}
 use Rattle.rule_read.specs.declared.syntax.ReadRefused.TheVariants as refused
@@ -12,8 +13,9 @@ use Rattle.rule_read.specs.Reading.{form_of}
 abbrev pub longest : ℕ
 longest = 1048576
 
--- Statements, or the first of these that is there: more bytes than the longest text has; the line of the first byte that is
--- not permitted; the line where the first statement without a form begins.
+-- Statements, or the first of these that is there: more bytes than the longest text has; the line
+-- of the first byte that is not permitted; the line where the first statement without a form
+-- begins.
 pub data Reading : Type 0 where
   TooLong : Reading
   BadByte : ℕ → Reading
@@ -41,7 +43,8 @@ unless_bad None others = others
 unless_bad (Some line) others = BadByte line
 
 abbrev pub reading : List ℕ → Reading
-reading text = if nat_lt longest (length text) then TooLong else unless_bad (bad_byte_of text) (forms_of (sentences_of text))
+reading text = if nat_lt longest (length text) then TooLong else unless_bad (bad_byte_of text)
+    (forms_of (sentences_of text))
 
 -- what was answered is what the text reads as, unless memory ran out
 abbrev pub Answers : Result Syntax ReadRefused → Reading → Type 0
@@ -55,5 +58,6 @@ Answers (Err refused.OutOfMemory) read = Unit {0}
 abbrev pub Means : List ℕ → Reading → Type 0
 Means text TooLong = longest < length text
 Means text (BadByte line) = (length text ≤ longest) × (bad_byte_of text ≡ Some line)
-Means text (BadStatement line) = (length text ≤ longest) × (bad_byte_of text ≡ None) × IsFirstUnformed (sentences_of text) line
+Means text (BadStatement line) = (length text ≤ longest) × (bad_byte_of text ≡ None)
+    × IsFirstUnformed (sentences_of text) line
 Means text (Statements statements) = (length text ≤ longest) × Spells text statements

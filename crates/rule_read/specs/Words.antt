@@ -1,5 +1,6 @@
 -- Reserved words, variables and numbers.
-use Rattle.std.specs.Prelude.{ℕ, ◌+◌, ◌*◌, ◌-◌, Bool, ◌&&◌, nat_le, nat_lt, List, [], ◌∷◌, length, Option, codes, find}
+use Rattle.std.specs.Prelude.{ℕ, ◌+◌, ◌*◌, ◌-◌, Bool, ◌&&◌, nat_le, nat_lt, List, [], ◌∷◌, length}
+use Rattle.std.specs.Prelude.{Option, codes, find}
 use Rattle.std.specs.Str.{bytes_eq}
 use Rattle.std.specs.List.{list_all}
 use Rattle.std.specs.Char.{is_ascii_uppercase, is_ascii_digit}
@@ -35,8 +36,10 @@ spelled key.Expires = codes "expires"
 
 abbrev pub keywords : List Keyword
 keywords =
-    key.Window ∷ key.Step ∷ key.From ∷ key.Queries ∷ key.Domain ∷ key.Input ∷ key.Simple ∷ key.Static ∷ key.Derived ∷ key.Initially
-    ∷ key.InitiatedAt ∷ key.TerminatedAt ∷ key.HappensAt ∷ key.HoldsAt ∷ key.HoldsFor ∷ key.Start ∷ key.End ∷ key.Not ∷ key.UnionAll
+    key.Window ∷ key.Step ∷ key.From ∷ key.Queries ∷ key.Domain ∷ key.Input ∷ key.Simple
+    ∷ key.Static ∷ key.Derived ∷ key.Initially
+    ∷ key.InitiatedAt ∷ key.TerminatedAt ∷ key.HappensAt ∷ key.HoldsAt ∷ key.HoldsFor ∷ key.Start
+    ∷ key.End ∷ key.Not ∷ key.UnionAll
     ∷ key.IntersectAll ∷ key.RelativeComplementAll ∷ key.Expires ∷ []
 
 -- the reserved word that a word is

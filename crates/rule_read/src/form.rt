@@ -12,7 +12,8 @@ pub struct Decl {
 /// An argument of an atom.
 #[derive(Debug, Drop)]
 pub enum Term {
-    /// A word that begins with a lower-case letter or a digit; it has to be an entity of the domain of its place.
+    /// A word that begins with a lower-case letter or a digit; it has to be an entity of the domain
+    /// of its place.
     Entity(Word),
     /// A word that begins with an upper-case letter.
     Variable(Word),
@@ -54,7 +55,8 @@ pub enum Body {
     Unequal(Word, Word),
 }
 
-/// An expression over the intervals of fluent-values; at most eight constructs stand inside one another.
+/// An expression over the intervals of fluent-values; at most eight constructs stand inside one
+/// another.
 #[derive(Debug, Drop)]
 pub enum Tree {
     Leaf(Fv),
@@ -66,7 +68,8 @@ pub enum Tree {
     Complement(Box<Tree>, Vec<Tree>),
 }
 
-/// What a statement says. Numbers have at most 16 digits; lists of conditions and values have at least one member.
+/// What a statement says. Numbers have at most 16 digits; lists of conditions and values have at
+/// least one member.
 #[derive(Debug, Drop)]
 pub enum Form {
     /// `window(N).`

@@ -9,13 +9,15 @@ ghost use Rattle.rule_read.specs.Whole.{Reading, reading, Means};
 /// A statement has one form.
 #[tactic(auto, using(crate::proofs::Formed::one_form))]
 pub fn one_form()
-    ensures { (ts : List Token) (f g : PlainForm) → SpellsForm ts f → IsSoundForm f → SpellsForm ts g → IsSoundForm g → f ≡ g }
+    ensures { (ts : List Token) (f g : PlainForm) → SpellsForm ts f → IsSoundForm f
+        → SpellsForm ts g → IsSoundForm g → f ≡ g }
 {}
 
 /// A text spells one list of statements.
 #[tactic(auto, using(crate::proofs::Spelled::one_reading))]
 pub fn one_reading()
-    ensures { (text : List ℕ) (xs ys : List PlainStatement) → Spells text xs → Spells text ys → xs ≡ ys }
+    ensures { (text : List ℕ) (xs ys : List PlainStatement) → Spells text xs → Spells text ys
+        → xs ≡ ys }
 {}
 
 /// What a text reads as is what the grammar says of it.

@@ -4,7 +4,8 @@ ghost use Rattle.std.specs.List.{prefix_len};
 ghost use Rattle.rt_base.specs.Kinds.{is_letter};
 ghost use Rattle.rule_read.specs.Tokens.{cut, pieces, Comment};
 ghost use Rattle.rule_read.specs.Sentences.{first_bad};
-ghost use Rattle.rule_read.specs.Lexed.{tokens, Takes, Steps, line_then, Ended, Shorter, ShorterStep, ShorterAt};
+ghost use Rattle.rule_read.specs.Lexed.{tokens, Takes, Steps, line_then, Ended, Shorter};
+ghost use Rattle.rule_read.specs.Lexed.{ShorterStep, ShorterAt};
 
 use crate::token::{Class, Ending, Lexeme, Mark, Token, class_at, is_letter};
 use std::alloc::AllocError;
@@ -71,7 +72,8 @@ impl<'a> Lexer<'a> {
     #[tactic(auto, using(crate::proofs::Runs::word_is_said, crate::proofs::Runs::word_starts), unfolding(crate::specs::Tokens::cut))]
     fn step(&mut self) -> Option<Lexeme<'a>>
         ensures shorter { ShorterStep result (length self.old.rest.now) (length self.new.rest.now) }
-        ensures steps { Steps (pieces self.old.line self.old.rest.now) self.new.line result (pieces self.new.line self.new.rest.now) }
+        ensures steps { Steps (pieces self.old.line self.old.rest.now) self.new.line result
+            (pieces self.new.line self.new.rest.now) }
     {
         let rest = match self.rest {
             [] => return Some(Lexeme::End),
@@ -127,7 +129,8 @@ impl<'a> Lexer<'a> {
     #[tactic(auto, using(crate::proofs::Sentences::shorter_still))]
     pub(crate) fn piece(&mut self) -> Lexeme<'a>
         ensures shorter { Shorter result (length self.old.rest.now) (length self.new.rest.now) }
-        ensures takes { Takes (pieces self.old.line self.old.rest.now) self.new.line result (pieces self.new.line self.new.rest.now) }
+        ensures takes { Takes (pieces self.old.line self.old.rest.now) self.new.line result
+            (pieces self.new.line self.new.rest.now) }
     {
         loop {
             if let Some(found) = self.step() {
@@ -136,14 +139,17 @@ impl<'a> Lexer<'a> {
         }
     }
 
-    /// The tokens of the next statement, how it ends, and the line of its first token, or of the byte where it is Bad.
+    /// The tokens of the next statement, how it ends, and the line of its first token, or of the
+    /// byte where it is Bad.
     #[tactic(auto, using(crate::proofs::Sentences::one_more_token), unfolding(crate::specs::Sentences::sentences, crate::specs::Sentences::first_bad))]
     pub(crate) fn statement(
         &mut self,
         found: &mut Vec<Token<'a>>,
     ) -> Result<(Ending, u32), AllocError>
-        ensures shorter { IfOk result (λ end. ShorterAt end.0 (length self.old.rest.now) (length self.new.rest.now)) }
-        ensures ended { IfOk result (λ end. Ended (pieces self.old.line self.old.rest.now) end.0 end.1 (tokens found.new.items) (pieces self.new.line self.new.rest.now)) }
+        ensures shorter { IfOk result (λ end. ShorterAt end.0 (length self.old.rest.now)
+            (length self.new.rest.now)) }
+        ensures ended { IfOk result (λ end. Ended (pieces self.old.line self.old.rest.now) end.0
+            end.1 (tokens found.new.items) (pieces self.new.line self.new.rest.now)) }
     {
         found.clear();
         let mut line = self.line;

@@ -1,8 +1,8 @@
-//! Event descriptions as text: the whole language is read, and printed in one canonical form.
-//! Its promise: `read` gives exactly the statements that the text spells, each with its line, and refuses exactly where
-//! the text is too long, a byte is not permitted or a statement has no form (want of memory aside); `print` gives the
-//! one canonical text, which reads as the same forms where it is at most 1,048,576 bytes long. A text has one reading.
-//! It stands on `rt_base` alone.
+//! Event descriptions as text: the whole language is read, and printed in one canonical form. Its
+//! promise: `read` gives exactly the statements that the text spells, each with its line, and
+//! refuses exactly where the text is too long, a byte is not permitted or a statement has no form
+//! (want of memory aside); `print` gives the one canonical text, which reads as the same forms
+//! where it is at most 1,048,576 bytes long. A text has one reading. It stands on `rt_base` alone.
 #![tactic(auto)]
 
 mod copy;

@@ -1,6 +1,7 @@
 // The canonical line of some tokens.
 ghost use Rattle.std.specs.Prelude.{◌≡◌, ◌++◌, OnOk};
-ghost use Rattle.rule_read.specs.Canonical.{mark_bytes, token_bytes, is_spaced, is_comma, opens_list, is_close, space_between, line_of};
+ghost use Rattle.rule_read.specs.Canonical.{mark_bytes, token_bytes, is_spaced, is_comma};
+ghost use Rattle.rule_read.specs.Canonical.{opens_list, is_close, space_between, line_of};
 ghost use Rattle.rule_read.specs.Lexed.{token, tokens};
 ghost use Rattle.rule_read.specs.Printed.{space_behind};
 
@@ -82,7 +83,8 @@ fn space_behind(one: Token<'_>, others: &[Token<'_>]) -> &'static [u8]
 
 /// A token and the space behind it.
 fn put_token(out: &mut Vec<u8>, one: Token<'_>, others: &[Token<'_>]) -> Result<(), OutOfMemory>
-    ensures { OnOk result (out.new.items ≡ out.old.items ++ (token_bytes (token one.entry) ++ space_behind (token one.entry) (tokens others.now))) }
+    ensures { OnOk result (out.new.items ≡ out.old.items ++ (token_bytes (token one.entry)
+        ++ space_behind (token one.entry) (tokens others.now))) }
 {
     out.extend_from_slice(token_text(one))?;
     out.extend_from_slice(space_behind(one, others))?;

@@ -2,7 +2,9 @@
 ghost use Rattle.std.specs.Prelude.{◌≡◌, ◌++◌, ◌∷◌, [], OnOk, map};
 ghost use Rattle.rule_read.specs.Tokens.{Word as Letters, Sign};
 ghost use Rattle.rule_read.specs.Lexed.{tokens};
-ghost use Rattle.rule_read.specs.Forms.{commas, arguments, in_brackets, in_parentheses, word_tokens, term_tokens, decl_tokens, atom_tokens, fv_tokens, event_tokens, unless, body_tokens, keyword};
+ghost use Rattle.rule_read.specs.Forms.{commas, arguments, in_brackets, in_parentheses};
+ghost use Rattle.rule_read.specs.Forms.{word_tokens, term_tokens, decl_tokens, atom_tokens};
+ghost use Rattle.rule_read.specs.Forms.{fv_tokens, event_tokens, unless, body_tokens, keyword};
 ghost use Rattle.rule_read.specs.Printed.{comma_at};
 
 use crate::form::{Atom, Body, Decl, EventText, Fv, Term};
@@ -46,7 +48,8 @@ pub(crate) fn put_comma<'a>(out: &mut Vec<Token<'a>>, turn: usize) -> Result<(),
 
 /// Words with commas between them.
 fn put_words<'a>(out: &mut Vec<Token<'a>>, words: &'a [Word]) -> Result<(), OutOfMemory>
-    ensures { OnOk result (tokens out.new.items ≡ tokens out.old.items ++ commas (map word_tokens words.now)) }
+    ensures { OnOk result (tokens out.new.items ≡ tokens out.old.items ++ commas
+        (map word_tokens words.now)) }
 {
     for (turn, word) in words.iter().enumerate() {
         put_comma(out, turn)?;
@@ -60,7 +63,8 @@ pub(crate) fn put_row<'a>(
     out: &mut Vec<Token<'a>>,
     words: &'a List<Word>,
 ) -> Result<(), OutOfMemory>
-    ensures { OnOk result (tokens out.new.items ≡ tokens out.old.items ++ in_brackets (map word_tokens words.now)) }
+    ensures { OnOk result (tokens out.new.items ≡ tokens out.old.items ++ in_brackets
+        (map word_tokens words.now)) }
 {
     put_mark(out, Mark::OpenList)?;
     put_words(out, words.as_slice())?;
@@ -69,7 +73,8 @@ pub(crate) fn put_row<'a>(
 
 /// Words in parentheses, which are left out where there are none.
 fn put_domains<'a>(out: &mut Vec<Token<'a>>, words: &'a [Word]) -> Result<(), OutOfMemory>
-    ensures { OnOk result (tokens out.new.items ≡ tokens out.old.items ++ arguments (map word_tokens words.now)) }
+    ensures { OnOk result (tokens out.new.items ≡ tokens out.old.items ++ arguments
+        (map word_tokens words.now)) }
 {
     if words.is_empty() {
         return Ok(());
@@ -97,7 +102,8 @@ fn put_term<'a>(out: &mut Vec<Token<'a>>, term: &'a Term) -> Result<(), OutOfMem
 
 /// Terms with commas between them.
 fn put_terms<'a>(out: &mut Vec<Token<'a>>, terms: &'a [Term]) -> Result<(), OutOfMemory>
-    ensures { OnOk result (tokens out.new.items ≡ tokens out.old.items ++ commas (map term_tokens terms.now)) }
+    ensures { OnOk result (tokens out.new.items ≡ tokens out.old.items ++ commas
+        (map term_tokens terms.now)) }
 {
     for (turn, term) in terms.iter().enumerate() {
         put_comma(out, turn)?;
@@ -108,7 +114,8 @@ fn put_terms<'a>(out: &mut Vec<Token<'a>>, terms: &'a [Term]) -> Result<(), OutO
 
 /// Terms in parentheses, which are left out where there are none.
 fn put_arguments<'a>(out: &mut Vec<Token<'a>>, terms: &'a [Term]) -> Result<(), OutOfMemory>
-    ensures { OnOk result (tokens out.new.items ≡ tokens out.old.items ++ arguments (map term_tokens terms.now)) }
+    ensures { OnOk result (tokens out.new.items ≡ tokens out.old.items ++ arguments
+        (map term_tokens terms.now)) }
 {
     if terms.is_empty() {
         return Ok(());
@@ -135,7 +142,8 @@ pub(crate) fn put_fv<'a>(out: &mut Vec<Token<'a>>, fv: &'a Fv) -> Result<(), Out
 
 /// A fluent-value in parentheses.
 pub(crate) fn put_held<'a>(out: &mut Vec<Token<'a>>, fv: &'a Fv) -> Result<(), OutOfMemory>
-    ensures { OnOk result (tokens out.new.items ≡ tokens out.old.items ++ in_parentheses (fv_tokens fv.now)) }
+    ensures { OnOk result (tokens out.new.items ≡ tokens out.old.items ++ in_parentheses
+        (fv_tokens fv.now)) }
 {
     put_mark(out, Mark::Open)?;
     put_fv(out, fv)?;
@@ -196,7 +204,8 @@ pub(crate) fn put_bodies<'a>(
     out: &mut Vec<Token<'a>>,
     bodies: &'a [Body],
 ) -> Result<(), OutOfMemory>
-    ensures { OnOk result (tokens out.new.items ≡ tokens out.old.items ++ commas (map body_tokens bodies.now)) }
+    ensures { OnOk result (tokens out.new.items ≡ tokens out.old.items ++ commas
+        (map body_tokens bodies.now)) }
 {
     for (turn, body) in bodies.iter().enumerate() {
         put_comma(out, turn)?;

@@ -3,7 +3,10 @@ ghost use Rattle.std.specs.Prelude.{◌≡◌, ◌≤◌, ◌++◌, ◌∷◌, l
 ghost use Rattle.std.specs.String.{string_bytes};
 ghost use Rattle.rule_read.specs.declared.keyword.Keyword.TheVariants as key;
 ghost use Rattle.rule_read.specs.Lexed.{tokens};
-ghost use Rattle.rule_read.specs.Forms.{plain_form, keyword, number_tokens, decl_tokens, fv_tokens, atom_tokens, body_tokens, word_tokens, rule_tokens, commas, in_brackets, form_tokens, Domain, Initially, HoldsFor, plain_tree};
+ghost use Rattle.rule_read.specs.Forms.{plain_form, keyword, number_tokens, decl_tokens, fv_tokens};
+ghost use Rattle.rule_read.specs.Forms.{atom_tokens, body_tokens, word_tokens, rule_tokens, commas};
+ghost use Rattle.rule_read.specs.Forms.{in_brackets, form_tokens, Domain, Initially, HoldsFor};
+ghost use Rattle.rule_read.specs.Forms.{plain_tree};
 ghost use Rattle.rule_read.specs.Sound.{IsSound};
 ghost use Rattle.rule_read.specs.Grammar.{Spells};
 ghost use Rattle.rule_read.specs.Canonical.{text_of, line_of, on_lines};
@@ -30,7 +33,8 @@ fn print_number(
     word: Keyword,
     number: u64,
 ) -> Result<(), OutOfMemory>
-    ensures { OnOk result (out.new.items ≡ out.old.items ++ line_of (number_tokens word (decimal number))) }
+    ensures { OnOk result (out.new.items ≡ out.old.items ++ line_of
+        (number_tokens word (decimal number))) }
 {
     // The digits last no longer than this call, so they stand in no list of tokens.
     let digits = number.to_string(alloc)?;
@@ -47,7 +51,8 @@ fn print_domain<'a>(
     name: &'a Word,
     entities: &'a List<Word>,
 ) -> Result<(), OutOfMemory>
-    ensures { OnOk result (out.new.items ≡ out.old.items ++ line_of (form_tokens (Domain name.now entities.now))) }
+    ensures { OnOk result (out.new.items ≡ out.old.items ++ line_of
+        (form_tokens (Domain name.now entities.now))) }
 {
     line.clear();
     put_key(line, Keyword::Domain)?;
@@ -62,7 +67,8 @@ fn print_decl<'a>(
     word: Keyword,
     decl: &'a Decl,
 ) -> Result<(), OutOfMemory>
-    ensures { OnOk result (out.new.items ≡ out.old.items ++ line_of (keyword word ∷ decl_tokens decl.now)) }
+    ensures { OnOk result (out.new.items ≡ out.old.items ++ line_of (keyword word ∷ decl_tokens
+        decl.now)) }
 {
     line.clear();
     put_key(line, word)?;
@@ -77,7 +83,8 @@ fn print_fluent<'a>(
     decl: &'a Decl,
     values: &'a List<Word>,
 ) -> Result<(), OutOfMemory>
-    ensures { OnOk result (out.new.items ≡ out.old.items ++ line_of (keyword word ∷ (decl_tokens decl.now ++ in_brackets (map word_tokens values.now)))) }
+    ensures { OnOk result (out.new.items ≡ out.old.items ++ line_of
+        (keyword word ∷ (decl_tokens decl.now ++ in_brackets (map word_tokens values.now)))) }
 {
     line.clear();
     put_key(line, word)?;
@@ -91,7 +98,8 @@ fn print_initially<'a>(
     line: &mut Vec<Token<'a>>,
     fv: &'a Fv,
 ) -> Result<(), OutOfMemory>
-    ensures { OnOk result (out.new.items ≡ out.old.items ++ line_of (form_tokens (Initially fv.now))) }
+    ensures { OnOk result (out.new.items ≡ out.old.items ++ line_of
+        (form_tokens (Initially fv.now))) }
 {
     line.clear();
     put_key(line, Keyword::Initially)?;
@@ -106,7 +114,8 @@ fn print_rule<'a>(
     fv: &'a Fv,
     bodies: &'a List<Body>,
 ) -> Result<(), OutOfMemory>
-    ensures { OnOk result (out.new.items ≡ out.old.items ++ line_of (rule_tokens word (fv_tokens fv.now) (commas (map body_tokens bodies.now)))) }
+    ensures { OnOk result (out.new.items ≡ out.old.items ++ line_of
+        (rule_tokens word (fv_tokens fv.now) (commas (map body_tokens bodies.now)))) }
 {
     line.clear();
     put_key(line, word)?;
@@ -122,7 +131,8 @@ fn print_event_rule<'a>(
     atom: &'a Atom,
     bodies: &'a List<Body>,
 ) -> Result<(), OutOfMemory>
-    ensures { OnOk result (out.new.items ≡ out.old.items ++ line_of (rule_tokens key.HappensAt (atom_tokens atom.now) (commas (map body_tokens bodies.now)))) }
+    ensures { OnOk result (out.new.items ≡ out.old.items ++ line_of (rule_tokens key.HappensAt
+        (atom_tokens atom.now) (commas (map body_tokens bodies.now)))) }
 {
     line.clear();
     put_key(line, Keyword::HappensAt)?;
@@ -140,7 +150,8 @@ fn print_holds_for<'a>(
     fv: &'a Fv,
     tree: &'a Tree,
 ) -> Result<(), OutOfMemory>
-    ensures { OnOk result (out.new.items ≡ out.old.items ++ line_of (form_tokens (HoldsFor fv.now (plain_tree tree.now)))) }
+    ensures { OnOk result (out.new.items ≡ out.old.items ++ line_of
+        (form_tokens (HoldsFor fv.now (plain_tree tree.now)))) }
 {
     line.clear();
     put_key(line, Keyword::HoldsFor)?;
@@ -156,7 +167,8 @@ fn print_form<'a>(
     line: &mut Vec<Token<'a>>,
     form: &'a Form,
 ) -> Result<(), OutOfMemory>
-    ensures { OnOk result (out.new.items ≡ out.old.items ++ line_of (form_tokens (plain_form form.now))) }
+    ensures { OnOk result (out.new.items ≡ out.old.items ++ line_of
+        (form_tokens (plain_form form.now))) }
 {
     match form {
         Form::Window(number) => print_number(alloc, out, Keyword::Window, *number),
@@ -176,17 +188,20 @@ fn print_form<'a>(
     }
 }
 
-/// Adds the canonical line of what a statement says, its end with it, to the end of a text: the line that `print` has for
-/// it. Where memory runs out, the text keeps what it had, and may have a part of the line behind it.
+/// Adds the canonical line of what a statement says, its end with it, to the end of a text: the
+/// line that `print` has for it. Where memory runs out, the text keeps what it had, and may have a
+/// part of the line behind it.
 pub fn put_form(alloc: Global, out: &mut Vec<u8>, form: &Form) -> Result<(), OutOfMemory>
-    ensures { OnOk result (out.new.items ≡ out.old.items ++ line_of (form_tokens (plain_form form.now))) }
+    ensures { OnOk result (out.new.items ≡ out.old.items ++ line_of
+        (form_tokens (plain_form form.now))) }
 {
     let mut line = Vec::new(alloc);
     print_form(alloc, out, &mut line, form)
 }
 
 fn print_forms(alloc: Global, statements: &[Statement]) -> Result<Vec<u8>, OutOfMemory>
-    ensures { IfOk result (λ out. out.items ≡ text_of (map (λ s. plain_form s.form) statements.now)) }
+    ensures { IfOk result (λ out. out.items
+        ≡ text_of (map (λ s. plain_form s.form) statements.now)) }
 {
     let mut out = Vec::new(alloc);
     let mut line = Vec::new(alloc);
@@ -196,14 +211,19 @@ fn print_forms(alloc: Global, statements: &[Statement]) -> Result<Vec<u8>, OutOf
     Ok(out)
 }
 
-/// The canonical text of a description: each statement on a line of its own, a space behind a comma and `not`, on each
-/// side of `:-` and `\=`, and before the `[` of a declaration, and nowhere else. Where it has at most 1,048,576 bytes,
-/// reading it gives the same forms, each on its line. The form is this project's own.
+/// The canonical text of a description: each statement on a line of its own, a space behind a comma
+/// and `not`, on each side of `:-` and `\=`, and before the `[` of a declaration, and nowhere else.
+/// Where it has at most 1,048,576 bytes, reading it gives the same forms, each on its line. The
+/// form is this project's own.
 pub fn print(alloc: Global, syntax: &Syntax) -> Result<String, OutOfMemory>
     requires { IsSound syntax.now }
-    ensures canonical { IfOk result (λ text. string_bytes text ≡ text_of (map (λ s. plain_form s.form) syntax.now.statements)) }
-    ensures spelled { IfOk result (λ text. Spells (string_bytes text) (on_lines 1 (map (λ s. plain_form s.form) syntax.now.statements))) }
-    ensures again { IfOk result (λ text. length (string_bytes text) ≤ longest → reading (string_bytes text) ≡ Statements (on_lines 1 (map (λ s. plain_form s.form) syntax.now.statements))) }
+    ensures canonical { IfOk result (λ text. string_bytes text
+        ≡ text_of (map (λ s. plain_form s.form) syntax.now.statements)) }
+    ensures spelled { IfOk result (λ text. Spells (string_bytes text)
+        (on_lines 1 (map (λ s. plain_form s.form) syntax.now.statements))) }
+    ensures again { IfOk result (λ text. length (string_bytes text) ≤ longest
+        → reading (string_bytes text) ≡ Statements
+        (on_lines 1 (map (λ s. plain_form s.form) syntax.now.statements))) }
 {
     match String::from_utf8(print_forms(alloc, syntax.statements.as_slice())?) {
         Ok(text) => Ok(text),

@@ -2,7 +2,10 @@
 ghost use Rattle.std.specs.Prelude.{◌≡◌};
 ghost use Rattle.rule_read.specs.declared.keyword.Kind.TheVariants as kind;
 ghost use Rattle.rule_read.specs.Lexed.{tokens};
-ghost use Rattle.rule_read.specs.Reading.{Part, Reads, Passes, has, tail, behind, word_at, key_at, members_at, row_at, args_at, enclosed_at, term_at, decl_at, atom_at, fv_at, event_at, condition_at, unequal_at, body_at};
+ghost use Rattle.rule_read.specs.Reading.{Part, Reads, Passes, has, tail, behind, word_at, key_at};
+ghost use Rattle.rule_read.specs.Reading.{members_at, row_at, args_at, enclosed_at, term_at};
+ghost use Rattle.rule_read.specs.Reading.{decl_at, atom_at, fv_at, event_at, condition_at};
+ghost use Rattle.rule_read.specs.Reading.{unequal_at, body_at};
 
 use crate::form::{Atom, Body, Decl, EventText, Fv, Term};
 use crate::keyword::{Keyword, Kind, reserved};
@@ -40,7 +43,8 @@ impl<'a> Reader<'a> {
 
     /// Passes over the mark.
     pub(crate) fn mark(&mut self, mark: Mark) -> Result<(), Stop>
-        ensures { Passes result (tokens self.new.rest.now) (behind mark (tokens self.old.rest.now)) }
+        ensures { Passes result (tokens self.new.rest.now)
+            (behind mark (tokens self.old.rest.now)) }
     {
         if !self.has(mark) {
             return Err(Stop::NoForm);
@@ -61,7 +65,8 @@ impl<'a> Reader<'a> {
 
     /// A word of this kind.
     pub(crate) fn word(&mut self, kind: Kind) -> Result<Word, Stop>
-        ensures { Reads (λ w. w) result (tokens self.new.rest.now) (word_at kind (tokens self.old.rest.now)) }
+        ensures { Reads (λ w. w) result (tokens self.new.rest.now)
+            (word_at kind (tokens self.old.rest.now)) }
     {
         match self.rest {
             [Token::Word(word), rest @ ..] if kind.admits(word) => {
@@ -75,7 +80,8 @@ impl<'a> Reader<'a> {
     /// One member or more, with commas between them.
     #[tactic(auto, unfolding(crate::specs::Reading::bind))]
     pub(crate) fn list<M: Member>(&mut self) -> Result<List<M::Item>, Stop>
-        ensures { Reads (λ xs. xs) result (tokens self.new.rest.now) (members_at M.at (tokens self.old.rest.now)) }
+        ensures { Reads (λ xs. xs) result (tokens self.new.rest.now)
+            (members_at M.at (tokens self.old.rest.now)) }
     {
         let count = self.rest.len();
         let mut members = Vec::new(self.alloc);
@@ -92,7 +98,8 @@ impl<'a> Reader<'a> {
     /// Members in brackets.
     #[tactic(auto, unfolding(crate::specs::Reading::row_at, crate::specs::Reading::bind))]
     pub(crate) fn row<M: Member>(&mut self) -> Result<List<M::Item>, Stop>
-        ensures { Reads (λ xs. xs) result (tokens self.new.rest.now) (row_at M.at (tokens self.old.rest.now)) }
+        ensures { Reads (λ xs. xs) result (tokens self.new.rest.now)
+            (row_at M.at (tokens self.old.rest.now)) }
     {
         self.mark(Mark::OpenList)?;
         let members = self.list::<M>()?;
@@ -103,7 +110,8 @@ impl<'a> Reader<'a> {
     /// Arguments in parentheses, or none.
     #[tactic(auto, unfolding(crate::specs::Reading::args_at, crate::specs::Reading::enclosed_at, crate::specs::Reading::bind))]
     pub(crate) fn args<M: Member>(&mut self) -> Result<List<M::Item>, Stop>
-        ensures { Reads (λ xs. xs) result (tokens self.new.rest.now) (args_at M.at (tokens self.old.rest.now)) }
+        ensures { Reads (λ xs. xs) result (tokens self.new.rest.now)
+            (args_at M.at (tokens self.old.rest.now)) }
     {
         if !self.has(Mark::Open) {
             return Ok(List::of(Vec::new(self.alloc)));
@@ -117,7 +125,8 @@ impl<'a> Reader<'a> {
     /// An entity or a variable.
     #[tactic(auto, unfolding(crate::specs::Reading::term_at, crate::specs::Reading::bind))]
     pub(crate) fn term(&mut self) -> Result<Term, Stop>
-        ensures { Reads (λ t. t) result (tokens self.new.rest.now) (term_at (tokens self.old.rest.now)) }
+        ensures { Reads (λ t. t) result (tokens self.new.rest.now)
+            (term_at (tokens self.old.rest.now)) }
     {
         match self.rest {
             [Token::Word(word), rest @ ..] if Kind::Constant.admits(word) => {
@@ -134,7 +143,8 @@ impl<'a> Reader<'a> {
 
     #[tactic(auto, unfolding(crate::specs::Reading::decl_at, crate::specs::Reading::bind))]
     pub(crate) fn decl(&mut self) -> Result<Decl, Stop>
-        ensures { Reads (λ d. d) result (tokens self.new.rest.now) (decl_at (tokens self.old.rest.now)) }
+        ensures { Reads (λ d. d) result (tokens self.new.rest.now)
+            (decl_at (tokens self.old.rest.now)) }
     {
         let name = self.word(Kind::Name)?;
         let args = self.args::<Names>()?;
@@ -143,7 +153,8 @@ impl<'a> Reader<'a> {
 
     #[tactic(auto, unfolding(crate::specs::Reading::atom_at, crate::specs::Reading::bind))]
     pub(crate) fn atom(&mut self) -> Result<Atom, Stop>
-        ensures { Reads (λ a. a) result (tokens self.new.rest.now) (atom_at (tokens self.old.rest.now)) }
+        ensures { Reads (λ a. a) result (tokens self.new.rest.now)
+            (atom_at (tokens self.old.rest.now)) }
     {
         let name = self.word(Kind::Name)?;
         let args = self.args::<Terms>()?;
@@ -152,7 +163,8 @@ impl<'a> Reader<'a> {
 
     #[tactic(auto, unfolding(crate::specs::Reading::fv_at, crate::specs::Reading::bind))]
     pub(crate) fn fv(&mut self) -> Result<Fv, Stop>
-        ensures { Reads (λ f. f) result (tokens self.new.rest.now) (fv_at (tokens self.old.rest.now)) }
+        ensures { Reads (λ f. f) result (tokens self.new.rest.now)
+            (fv_at (tokens self.old.rest.now)) }
     {
         let atom = self.atom()?;
         self.mark(Mark::Equals)?;
@@ -163,7 +175,8 @@ impl<'a> Reader<'a> {
     /// A fluent-value in parentheses.
     #[tactic(auto, unfolding(crate::specs::Reading::enclosed_at, crate::specs::Reading::bind))]
     pub(crate) fn enclosed_fv(&mut self) -> Result<Fv, Stop>
-        ensures { Reads (λ f. f) result (tokens self.new.rest.now) (enclosed_at fv_at (tokens self.old.rest.now)) }
+        ensures { Reads (λ f. f) result (tokens self.new.rest.now)
+            (enclosed_at fv_at (tokens self.old.rest.now)) }
     {
         self.mark(Mark::Open)?;
         let fv = self.fv()?;
@@ -173,7 +186,8 @@ impl<'a> Reader<'a> {
 
     #[tactic(auto, unfolding(crate::specs::Reading::event_at, crate::specs::Reading::mapped, crate::specs::Reading::bind))]
     fn event(&mut self) -> Result<EventText, Stop>
-        ensures { Reads (λ e. e) result (tokens self.new.rest.now) (event_at (tokens self.old.rest.now)) }
+        ensures { Reads (λ e. e) result (tokens self.new.rest.now)
+            (event_at (tokens self.old.rest.now)) }
     {
         match self.key() {
             Some(Keyword::Start) => {
@@ -190,7 +204,8 @@ impl<'a> Reader<'a> {
 
     #[tactic(auto, unfolding(crate::specs::Reading::condition_at, crate::specs::Reading::mapped, crate::specs::Reading::enclosed_at, crate::specs::Reading::bind))]
     fn condition(&mut self, positive: bool) -> Result<Body, Stop>
-        ensures { Reads (λ b. b) result (tokens self.new.rest.now) (condition_at positive (tokens self.old.rest.now)) }
+        ensures { Reads (λ b. b) result (tokens self.new.rest.now)
+            (condition_at positive (tokens self.old.rest.now)) }
     {
         match self.key() {
             Some(Keyword::HappensAt) => {
@@ -211,7 +226,8 @@ impl<'a> Reader<'a> {
 
     #[tactic(auto, unfolding(crate::specs::Reading::unequal_at, crate::specs::Reading::bind))]
     fn unequal(&mut self) -> Result<Body, Stop>
-        ensures { Reads (λ b. b) result (tokens self.new.rest.now) (unequal_at (tokens self.old.rest.now)) }
+        ensures { Reads (λ b. b) result (tokens self.new.rest.now)
+            (unequal_at (tokens self.old.rest.now)) }
     {
         let one = self.word(Kind::Variable)?;
         self.mark(Mark::Differs)?;
@@ -221,7 +237,8 @@ impl<'a> Reader<'a> {
 
     #[tactic(auto, unfolding(crate::specs::Reading::body_at, crate::specs::Reading::bind))]
     pub(crate) fn body(&mut self) -> Result<Body, Stop>
-        ensures { Reads (λ b. b) result (tokens self.new.rest.now) (body_at (tokens self.old.rest.now)) }
+        ensures { Reads (λ b. b) result (tokens self.new.rest.now)
+            (body_at (tokens self.old.rest.now)) }
     {
         match self.key() {
             Some(Keyword::Not) => {
@@ -241,7 +258,8 @@ pub(crate) trait Member {
     ghost at: { Part Self.Item };
 
     fn read(reader: &mut Reader<'_>) -> Result<Self::Item, Stop>
-        ensures { Reads (λ x. x) result (tokens reader.new.rest.now) (at (tokens reader.old.rest.now)) };
+        ensures { Reads (λ x. x) result (tokens reader.new.rest.now)
+            (at (tokens reader.old.rest.now)) };
 }
 
 /// Names of domains.

@@ -6,7 +6,9 @@ ghost use Rattle.rule_read.specs.Lexed.{tokens};
 ghost use Rattle.rule_read.specs.Words.{is_number, number_of};
 ghost use Rattle.rule_read.specs.declared.keyword.Kind.TheVariants as kind;
 ghost use Rattle.rule_read.specs.Forms.{plain_form, plain_tree};
-ghost use Rattle.rule_read.specs.Reading.{Reads, Gives, word_at, any_row_at, number_at, numbered_at, valued_at, domain_at, conditions_at, rule_at, static_at, fv_at, atom_at, form_at, form_of};
+ghost use Rattle.rule_read.specs.Reading.{Reads, Gives, word_at, any_row_at, number_at};
+ghost use Rattle.rule_read.specs.Reading.{numbered_at, valued_at, domain_at, conditions_at};
+ghost use Rattle.rule_read.specs.Reading.{rule_at, static_at, fv_at, atom_at, form_at, form_of};
 
 use crate::form::{Atom, Body, Decl, Form, Fv, Tree};
 use crate::keyword::{Keyword, Kind};
@@ -47,7 +49,8 @@ fn number_of(digits: &[u8]) -> u64
 impl<'a> Reader<'a> {
     #[tactic(auto, unfolding(crate::specs::Reading::number_at, crate::specs::Reading::mapped, crate::specs::Reading::bind))]
     fn number(&mut self) -> Result<u64, Stop>
-        ensures { Reads (λ n. n) result (tokens self.new.rest.now) (number_at (tokens self.old.rest.now)) }
+        ensures { Reads (λ n. n) result (tokens self.new.rest.now)
+            (number_at (tokens self.old.rest.now)) }
     {
         match self.rest {
             [Token::Word(word), rest @ ..] if is_number(word) => {
@@ -61,7 +64,8 @@ impl<'a> Reader<'a> {
     /// A number in parentheses.
     #[tactic(auto, unfolding(crate::specs::Reading::enclosed_at, crate::specs::Reading::bind))]
     fn enclosed_number(&mut self) -> Result<u64, Stop>
-        ensures { Reads (λ n. n) result (tokens self.new.rest.now) (numbered_at (tokens self.old.rest.now)) }
+        ensures { Reads (λ n. n) result (tokens self.new.rest.now)
+            (numbered_at (tokens self.old.rest.now)) }
     {
         self.mark(Mark::Open)?;
         let number = self.number()?;
@@ -72,7 +76,8 @@ impl<'a> Reader<'a> {
     /// Entities in brackets, of which there may be none.
     #[tactic(auto, unfolding(crate::specs::Reading::any_row_at, crate::specs::Reading::bind))]
     fn entities(&mut self) -> Result<List<Word>, Stop>
-        ensures { Reads (λ xs. xs) result (tokens self.new.rest.now) (any_row_at (word_at kind.Constant) (tokens self.old.rest.now)) }
+        ensures { Reads (λ xs. xs) result (tokens self.new.rest.now)
+            (any_row_at (word_at kind.Constant) (tokens self.old.rest.now)) }
     {
         self.mark(Mark::OpenList)?;
         if self.has(Mark::CloseList) {
@@ -86,7 +91,8 @@ impl<'a> Reader<'a> {
 
     #[tactic(auto, unfolding(crate::specs::Reading::domain_at, crate::specs::Reading::bind))]
     fn domain(&mut self) -> Result<(Word, List<Word>), Stop>
-        ensures { Reads (λ x. x) result (tokens self.new.rest.now) (domain_at (tokens self.old.rest.now)) }
+        ensures { Reads (λ x. x) result (tokens self.new.rest.now)
+            (domain_at (tokens self.old.rest.now)) }
     {
         let name = self.word(Kind::Name)?;
         let entities = self.entities()?;
@@ -96,7 +102,8 @@ impl<'a> Reader<'a> {
     /// A declaration and its values.
     #[tactic(auto, unfolding(crate::specs::Reading::valued_at, crate::specs::Reading::bind))]
     fn valued(&mut self) -> Result<(Decl, List<Word>), Stop>
-        ensures { Reads (λ x. x) result (tokens self.new.rest.now) (valued_at (tokens self.old.rest.now)) }
+        ensures { Reads (λ x. x) result (tokens self.new.rest.now)
+            (valued_at (tokens self.old.rest.now)) }
     {
         let decl = self.decl()?;
         let values = self.row::<Constants>()?;
@@ -105,7 +112,8 @@ impl<'a> Reader<'a> {
 
     #[tactic(auto, unfolding(crate::specs::Reading::conditions_at, crate::specs::Reading::bind))]
     fn conditions(&mut self) -> Result<List<Body>, Stop>
-        ensures { Reads (λ xs. xs) result (tokens self.new.rest.now) (conditions_at (tokens self.old.rest.now)) }
+        ensures { Reads (λ xs. xs) result (tokens self.new.rest.now)
+            (conditions_at (tokens self.old.rest.now)) }
     {
         self.mark(Mark::If)?;
         self.list::<Bodies>()
@@ -114,7 +122,8 @@ impl<'a> Reader<'a> {
     /// A rule with a fluent-value in its head.
     #[tactic(auto, unfolding(crate::specs::Reading::rule_at, crate::specs::Reading::bind))]
     fn fluent_rule(&mut self) -> Result<(Fv, List<Body>), Stop>
-        ensures { Reads (λ x. x) result (tokens self.new.rest.now) (rule_at fv_at (tokens self.old.rest.now)) }
+        ensures { Reads (λ x. x) result (tokens self.new.rest.now)
+            (rule_at fv_at (tokens self.old.rest.now)) }
     {
         let fv = self.enclosed_fv()?;
         let bodies = self.conditions()?;
@@ -124,7 +133,8 @@ impl<'a> Reader<'a> {
     /// A rule with an event in its head.
     #[tactic(auto, unfolding(crate::specs::Reading::rule_at, crate::specs::Reading::enclosed_at, crate::specs::Reading::bind))]
     fn event_rule(&mut self) -> Result<(Atom, List<Body>), Stop>
-        ensures { Reads (λ x. x) result (tokens self.new.rest.now) (rule_at atom_at (tokens self.old.rest.now)) }
+        ensures { Reads (λ x. x) result (tokens self.new.rest.now)
+            (rule_at atom_at (tokens self.old.rest.now)) }
     {
         self.mark(Mark::Open)?;
         let atom = self.atom()?;
@@ -136,7 +146,8 @@ impl<'a> Reader<'a> {
     /// A fluent-value and the expression that it is determined by.
     #[tactic(auto, unfolding(crate::specs::Reading::static_at, crate::specs::Reading::bind))]
     fn static_rule(&mut self) -> Result<(Fv, Tree), Stop>
-        ensures { Reads (λ x. (x.0, plain_tree x.1)) result (tokens self.new.rest.now) (static_at (tokens self.old.rest.now)) }
+        ensures { Reads (λ x. (x.0, plain_tree x.1)) result (tokens self.new.rest.now)
+            (static_at (tokens self.old.rest.now)) }
     {
         let fv = self.enclosed_fv()?;
         self.mark(Mark::If)?;
@@ -146,7 +157,8 @@ impl<'a> Reader<'a> {
 
     #[tactic(auto, unfolding(crate::specs::Reading::form_at, crate::specs::Reading::mapped, crate::specs::Reading::bind))]
     fn form(&mut self) -> Result<Form, Stop>
-        ensures { Reads plain_form result (tokens self.new.rest.now) (form_at (tokens self.old.rest.now)) }
+        ensures { Reads plain_form result (tokens self.new.rest.now)
+            (form_at (tokens self.old.rest.now)) }
     {
         let key = self.key();
         self.pass();

@@ -1,13 +1,15 @@
 // Reading a whole text.
 ghost use Rattle.std.specs.Prelude.{◌≡◌, ◌≤◌, ◌<◌, ℕ, length, map, [], IfOk, Err, None, Some};
 ghost use Rattle.std.specs.Bool.{MatchBool};
-ghost use Rattle.rule_read.specs.declared.syntax.ReadRefused.TheVariants.{TooLong, BadByte, BadStatement};
+ghost use Rattle.rule_read.specs.declared.syntax.ReadRefused.TheVariants.{TooLong, BadByte};
+ghost use Rattle.rule_read.specs.declared.syntax.ReadRefused.TheVariants.{BadStatement};
 ghost use Rattle.rule_read.specs.Sentences.{sentences_of, bad_byte_of, lead};
 ghost use Rattle.rule_read.specs.Forms.{plain};
 ghost use Rattle.rule_read.specs.Sound.{IsSound};
 ghost use Rattle.rule_read.specs.Grammar.{Spells, IsFirstUnformed};
 ghost use Rattle.rule_read.specs.Lexed.{tokens};
-ghost use Rattle.rule_read.specs.Whole.{reading, Answers, forms_of, longest, Statements, BadStatement as Unformed};
+ghost use Rattle.rule_read.specs.Whole.{reading, Answers, forms_of, longest, Statements};
+ghost use Rattle.rule_read.specs.Whole.{BadStatement as Unformed};
 ghost use Rattle.rule_read.specs.Stated.{States};
 
 use crate::lexer::Lexer;
@@ -21,7 +23,9 @@ use std::alloc::Global;
 /// No token stands there.
 #[tactic(auto, unfolding(crate::specs::Whole::forms_of))]
 fn is_nothing(found: &[Token<'_>]) -> bool
-    ensures { MatchBool result ((line : ℕ) → forms_of (lead line (tokens found.now) []) ≡ Statements []) ((line : ℕ) → forms_of (lead line (tokens found.now) []) ≡ Unformed line) }
+    ensures { MatchBool result ((line : ℕ) → forms_of (lead line (tokens found.now) [])
+        ≡ Statements []) ((line : ℕ) → forms_of (lead line (tokens found.now) [])
+        ≡ Unformed line) }
 {
     match found {
         [] => true,
@@ -29,8 +33,8 @@ fn is_nothing(found: &[Token<'_>]) -> bool
     }
 }
 
-/// The statements of a text that is not too long. Behind a statement that has no form it is still looked for bytes
-/// that may not stand there, since they are refused first.
+/// The statements of a text that is not too long. Behind a statement that has no form it is still
+/// looked for bytes that may not stand there, since they are refused first.
 #[tactic(auto, using(crate::proofs::Wholes::dot_formed, crate::proofs::Wholes::dot_unformed, crate::proofs::Wholes::end_some, crate::proofs::Wholes::end_none, crate::proofs::Wholes::next_statement, crate::proofs::Wholes::nothing_first, crate::proofs::Wholes::all_first))]
 fn statements_of(alloc: Global, text: &[u8]) -> Result<Vec<Statement>, ReadRefused>
     requires { length text.now ≤ longest }
@@ -62,11 +66,13 @@ fn statements_of(alloc: Global, text: &[u8]) -> Result<Vec<Statement>, ReadRefus
     }
 }
 
-/// The statements of a description, in the order of the text, each with the line of its first token.
+/// The statements of a description, in the order of the text, each with the line of its first
+/// token.
 ///
-/// TooLong comes exactly where the text has more than 1,048,576 bytes; else BadByte exactly where a byte outside
-/// comments is not permitted, with the line of the first; else BadStatement exactly where a statement has no form, with
-/// the line where the first such statement begins. The language is this project's own.
+/// TooLong comes exactly where the text has more than 1,048,576 bytes; else BadByte exactly where a
+/// byte outside comments is not permitted, with the line of the first; else BadStatement exactly
+/// where a statement has no form, with the line where the first such statement begins. The language
+/// is this project's own.
 #[tactic(auto, using(crate::proofs::Wholes::reads_too_long, crate::proofs::Wholes::reads_statements, crate::proofs::Wholes::reads_refused, crate::proofs::Spelled::stated_spelled, crate::proofs::Spelled::stated_unformed))]
 pub fn read(alloc: Global, text: &[u8]) -> Result<Syntax, ReadRefused>
     ensures exact { Answers result (reading text.now) }
@@ -75,7 +81,8 @@ pub fn read(alloc: Global, text: &[u8]) -> Result<Syntax, ReadRefused>
     ensures few { IfOk result (λ syntax. length syntax.statements ≤ length text.now) }
     ensures too_long { result ≡ Err TooLong → longest < length text.now }
     ensures bad_byte { (line : ℕ) → result ≡ Err (BadByte line) → bad_byte_of text.now ≡ Some line }
-    ensures none { (line : ℕ) → result ≡ Err (BadStatement line) → (bad_byte_of text.now ≡ None) × IsFirstUnformed (sentences_of text.now) line }
+    ensures none { (line : ℕ) → result ≡ Err (BadStatement line) → (bad_byte_of text.now ≡ None)
+        × IsFirstUnformed (sentences_of text.now) line }
 {
     if text.len() > 1_048_576 {
         return Err(ReadRefused::TooLong);

@@ -2,7 +2,8 @@
 ghost use Rattle.std.specs.Prelude.{◌≡◌, map};
 ghost use Rattle.rule_read.specs.Lexed.{tokens};
 ghost use Rattle.rule_read.specs.Forms.{plain_tree, Union_of, Intersect_of, Complement_of};
-ghost use Rattle.rule_read.specs.Reading.{Reads, members_at, row_at, pair_at, enclosed_at, expressions, construct_at, expression_at};
+ghost use Rattle.rule_read.specs.Reading.{Reads, members_at, row_at, pair_at, enclosed_at};
+ghost use Rattle.rule_read.specs.Reading.{expressions, construct_at, expression_at};
 
 use crate::form::Tree;
 use crate::keyword::Keyword;
@@ -27,7 +28,8 @@ fn intersect_of(members: Vec<Tree>) -> Tree
 
 #[tactic(auto, using(crate::proofs::Trees::plain_complement))]
 fn complement_of(first: Box<Tree>, others: Vec<Tree>) -> Tree
-    ensures { plain_tree result ≡ Complement_of (plain_tree first.value) (expressions (map plain_tree others.items)) }
+    ensures { plain_tree result ≡ Complement_of (plain_tree first.value)
+        (expressions (map plain_tree others.items)) }
 {
     Tree::Complement(first, others)
 }
@@ -37,7 +39,8 @@ impl<'a> Reader<'a> {
     #[cycle(tree)]
     #[tactic(auto, using(crate::proofs::Trees::one_more_deep), unfolding(crate::specs::Reading::expression_at, crate::specs::Reading::mapped, crate::specs::Reading::bind))]
     pub(crate) fn tree(&mut self, depth: u8) -> Result<Tree, Stop>
-        ensures { Reads plain_tree result (tokens self.new.rest.now) (expression_at depth (tokens self.old.rest.now)) }
+        ensures { Reads plain_tree result (tokens self.new.rest.now)
+            (expression_at depth (tokens self.old.rest.now)) }
     {
         if depth == 0 {
             return Ok(Tree::Leaf(self.fv()?));
@@ -45,11 +48,13 @@ impl<'a> Reader<'a> {
         self.construct(depth - 1)
     }
 
-    /// A construct over members with at most so many constructs inside one another, or a fluent-value.
+    /// A construct over members with at most so many constructs inside one another, or a
+    /// fluent-value.
     #[cycle(tree)]
     #[tactic(auto, unfolding(crate::specs::Reading::construct_at, crate::specs::Reading::mapped, crate::specs::Reading::bind))]
     fn construct(&mut self, depth: u8) -> Result<Tree, Stop>
-        ensures { Reads plain_tree result (tokens self.new.rest.now) (construct_at (expression_at depth) (tokens self.old.rest.now)) }
+        ensures { Reads plain_tree result (tokens self.new.rest.now)
+            (construct_at (expression_at depth) (tokens self.old.rest.now)) }
     {
         match self.key() {
             Some(Keyword::UnionAll) => {
@@ -74,7 +79,8 @@ impl<'a> Reader<'a> {
     #[cycle(tree)]
     #[tactic(auto, unfolding(crate::specs::Reading::enclosed_at, crate::specs::Reading::bind))]
     fn enclosed_trees(&mut self, depth: u8) -> Result<Vec<Tree>, Stop>
-        ensures { Reads (λ v. map plain_tree v.items) result (tokens self.new.rest.now) (enclosed_at (row_at (expression_at depth)) (tokens self.old.rest.now)) }
+        ensures { Reads (λ v. map plain_tree v.items) result (tokens self.new.rest.now)
+            (enclosed_at (row_at (expression_at depth)) (tokens self.old.rest.now)) }
     {
         self.mark(Mark::Open)?;
         let members = self.tree_row(depth)?;
@@ -86,7 +92,9 @@ impl<'a> Reader<'a> {
     #[cycle(tree)]
     #[tactic(auto, unfolding(crate::specs::Reading::enclosed_at, crate::specs::Reading::pair_at, crate::specs::Reading::bind))]
     fn enclosed_pair(&mut self, depth: u8) -> Result<(Tree, Vec<Tree>), Stop>
-        ensures { Reads (λ x. (plain_tree x.0, map plain_tree x.1.items)) result (tokens self.new.rest.now) (enclosed_at (pair_at (expression_at depth)) (tokens self.old.rest.now)) }
+        ensures { Reads (λ x. (plain_tree x.0, map plain_tree x.1.items)) result
+            (tokens self.new.rest.now) (enclosed_at (pair_at (expression_at depth))
+            (tokens self.old.rest.now)) }
     {
         self.mark(Mark::Open)?;
         let first = self.tree(depth)?;
@@ -100,7 +108,8 @@ impl<'a> Reader<'a> {
     #[cycle(tree)]
     #[tactic(auto, unfolding(crate::specs::Reading::row_at, crate::specs::Reading::bind))]
     fn tree_row(&mut self, depth: u8) -> Result<Vec<Tree>, Stop>
-        ensures { Reads (λ v. map plain_tree v.items) result (tokens self.new.rest.now) (row_at (expression_at depth) (tokens self.old.rest.now)) }
+        ensures { Reads (λ v. map plain_tree v.items) result (tokens self.new.rest.now)
+            (row_at (expression_at depth) (tokens self.old.rest.now)) }
     {
         self.mark(Mark::OpenList)?;
         let members = self.trees(depth)?;
@@ -112,7 +121,8 @@ impl<'a> Reader<'a> {
     #[cycle(tree)]
     #[tactic(auto, unfolding(crate::specs::Reading::bind))]
     fn trees(&mut self, depth: u8) -> Result<Vec<Tree>, Stop>
-        ensures { Reads (λ v. map plain_tree v.items) result (tokens self.new.rest.now) (members_at (expression_at depth) (tokens self.old.rest.now)) }
+        ensures { Reads (λ v. map plain_tree v.items) result (tokens self.new.rest.now)
+            (members_at (expression_at depth) (tokens self.old.rest.now)) }
     {
         let count = self.rest.len();
         let mut members = Vec::new(self.alloc);

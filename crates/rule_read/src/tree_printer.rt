@@ -38,7 +38,8 @@ fn put_construct<'a>(
     word: Keyword,
     members: &'a [Tree],
 ) -> Result<(), OutOfMemory>
-    ensures { OnOk result (tokens out.new.items ≡ tokens out.old.items ++ keyword word ∷ in_parentheses (in_brackets (map tree_tokens members.now))) }
+    ensures { OnOk result (tokens out.new.items ≡ tokens out.old.items ++ keyword word
+        ∷ in_parentheses (in_brackets (map tree_tokens members.now))) }
 {
     put_key(out, word)?;
     put_mark(out, Mark::Open)?;
@@ -49,7 +50,8 @@ fn put_construct<'a>(
 /// Expressions in brackets.
 #[cycle(tree)]
 fn put_tree_row<'a>(out: &mut Vec<Token<'a>>, members: &'a [Tree]) -> Result<(), OutOfMemory>
-    ensures { OnOk result (tokens out.new.items ≡ tokens out.old.items ++ in_brackets (map tree_tokens members.now)) }
+    ensures { OnOk result (tokens out.new.items ≡ tokens out.old.items ++ in_brackets
+        (map tree_tokens members.now)) }
 {
     put_mark(out, Mark::OpenList)?;
     put_trees(out, members)?;
@@ -59,7 +61,8 @@ fn put_tree_row<'a>(out: &mut Vec<Token<'a>>, members: &'a [Tree]) -> Result<(),
 /// Expressions with commas between them.
 #[cycle(tree)]
 fn put_trees<'a>(out: &mut Vec<Token<'a>>, members: &'a [Tree]) -> Result<(), OutOfMemory>
-    ensures { OnOk result (tokens out.new.items ≡ tokens out.old.items ++ commas (map tree_tokens members.now)) }
+    ensures { OnOk result (tokens out.new.items ≡ tokens out.old.items ++ commas
+        (map tree_tokens members.now)) }
 {
     for (turn, tree) in members.iter().enumerate() {
         put_comma(out, turn)?;

@@ -1,5 +1,7 @@
 -- The fronts of rising points, and the terminations that are left.
-use Rattle.std.proofs.Common.{◌≡◌, ℕ, ◌+◌, ◌<◌, ◌≤◌, Bool, true, false, cond, ◌&&◌, leb, ltb, eqb, List, [], ◌∷◌, filter, get_or, Option, Some, None, refl, sym, ◌∙◌, ap, arith}
+use Rattle.std.proofs.Common.{◌≡◌, ℕ, ◌+◌, ◌<◌, ◌≤◌, Bool, true, false, cond, ◌&&◌, leb, ltb, eqb}
+use Rattle.std.proofs.Common.{List, [], ◌∷◌, filter, get_or, Option, Some, None, refl, sym, ◌∙◌, ap}
+use Rattle.std.proofs.Common.{arith}
 use Rattle.std.specs.List.{AllByRecursion}
 use Rattle.std.proofs.lemmas.Bool.Decides.{nat_tests}
 use Rattle.std.proofs.lemmas.Map.Views.{any-filter_same}
@@ -9,7 +11,8 @@ use Rattle.simple_fluent.specs.Rows.{IsInside}
 use Rattle.simple_fluent.specs.Sweep.{after_point, terms_from}
 use Rattle.simple_fluent.proofs.Inertia.{ended, ended_inside}
 
-pub contains_low : (floor : ℕ) (xs : List ℕ) (t : ℕ) → IsRisingFrom floor xs → t < floor → contains xs t ≡ false
+pub contains_low : (floor : ℕ) (xs : List ℕ) (t : ℕ) → IsRisingFrom floor xs → t < floor
+    → contains xs t ≡ false
 contains_low floor [] t up lt = refl
 contains_low floor (p ∷ rest) t up lt =
     let no : eqb p t ≡ false = grind (arith, nat_tests, up.0) in
@@ -26,7 +29,8 @@ pub record IsAtFront (xs : List ℕ) (at : ℕ) (now : List ℕ) : Type 0 where
   pub later : IsRisingFrom (at + 1) now
   pub same : (t : ℕ) → at < t → contains xs t ≡ contains now t
 
-front_by : (p : ℕ) (rest : List ℕ) (at : ℕ) (b : Bool) → eqb p at ≡ b → IsRisingFrom at (p ∷ rest) → IsAtFront (p ∷ rest) at (cond b rest (p ∷ rest))
+front_by : (p : ℕ) (rest : List ℕ) (at : ℕ) (b : Bool) → eqb p at ≡ b → IsRisingFrom at (p ∷ rest)
+    → IsAtFront (p ∷ rest) at (cond b rest (p ∷ rest))
 front_by p rest at true is up =
     let same : p ≡ at = grind (arith, nat_tests) in
     record {
@@ -44,7 +48,8 @@ pub at_front : (xs : List ℕ) (at : ℕ) → IsRisingFrom at xs → IsAtFront x
 at_front [] at up = record { has = refl; later = tt; same = λ t lt. refl }
 at_front (p ∷ rest) at up = front_by p rest at (eqb p at) refl up
 
-after_by : (p : ℕ) (rest : List ℕ) (b : Bool) → IsRising (p ∷ rest) → IsRising (cond b rest (p ∷ rest))
+after_by : (p : ℕ) (rest : List ℕ) (b : Bool) → IsRising (p ∷ rest)
+    → IsRising (cond b rest (p ∷ rest))
 after_by p [] true up = tt
 after_by p (q ∷ rest) true up = (omega arith, up.1.1)
 after_by p rest false up = up
@@ -53,20 +58,25 @@ pub after_rises : (xs : List ℕ) (at : ℕ) → IsRising xs → IsRising (after
 after_rises [] at up = tt
 after_rises (p ∷ rest) at up = after_by p rest (eqb p at) up
 
-contains_filter : (test : ℕ → Bool) (xs : List ℕ) (t : ℕ) → contains (filter test xs) t ≡ (test t && contains xs t)
+contains_filter : (test : ℕ → Bool) (xs : List ℕ) (t : ℕ) → contains (filter test xs) t
+    ≡ (test t && contains xs t)
 contains_filter test xs t =
-    any-filter_same (λ y. eqb y t) test (test t) (λ k is. (let same : k ≡ t = grind (arith, nat_tests) in ap test same)) xs
+    any-filter_same (λ y. eqb y t) test (test t) (λ k is. (let same : k ≡ t =
+    grind (arith, nat_tests) in ap test same)) xs
 
-inside_part : (above q t : ℕ) (b : Bool) → above < t → (b ≡ true → t ≤ q) → b ≡ ((ltb above t && leb t q) && b)
+inside_part : (above q t : ℕ) (b : Bool) → above < t → (b ≡ true → t ≤ q)
+    → b ≡ ((ltb above t && leb t q) && b)
 inside_part above q t true lt le = let high : t ≤ q = le refl in grind (arith, nat_tests)
 inside_part above q t false lt le = grind (arith, nat_tests)
 
 -- above the point they say when the value is terminated
-pub terms_from_same : (w q : ℕ) (terms : List (List ℕ)) (v : Option ℕ) (above t : ℕ) → AllByRecursion (IsInside w q) terms → above < t →
+pub terms_from_same : (w q : ℕ) (terms : List (List ℕ)) (v : Option ℕ) (above t : ℕ)
+    → AllByRecursion (IsInside w q) terms → above < t →
     ended terms v t ≡ contains (terms_from terms v above q) t
 terms_from_same w q terms None above t inside lt = refl
 terms_from_same w q terms (Some v) above t inside lt =
-    inside_part above q t (contains (get_or terms v []) t) lt (λ is. (ended_inside w q terms (Some v) t inside is).within)
+    inside_part above q t (contains (get_or terms v []) t) lt
+    (λ is. (ended_inside w q terms (Some v) t inside is).within)
     ∙ sym (contains_filter (λ u. ltb above u && leb u q) (get_or terms v []) t)
 
 test_above : (above q t : ℕ) (b : Bool) → ((ltb above t && leb t q) && b) ≡ true → above < t
@@ -75,14 +85,18 @@ test_above above q t b is = grind (arith, nat_tests)
 first_there : (p : ℕ) (rest : List ℕ) → contains (p ∷ rest) p ≡ true
 first_there p rest = let yes : eqb p p ≡ true = grind (arith, nat_tests) in rw yes refl
 
-above_by : (above q : ℕ) (all xs : List ℕ) → ((t : ℕ) → contains xs t ≡ ((ltb above t && leb t q) && contains all t)) → IsRising xs → IsRisingFrom (above + 1) xs
+above_by : (above q : ℕ) (all xs : List ℕ)
+    → ((t : ℕ) → contains xs t ≡ ((ltb above t && leb t q) && contains all t)) → IsRising xs
+    → IsRisingFrom (above + 1) xs
 above_by above q all [] same up = tt
 above_by above q all (p ∷ rest) same up =
-    let lt : above < p = test_above above q p (contains all p) (sym (same p) ∙ first_there p rest) in
+    let lt : above < p = test_above above q p (contains all p) (sym (same p) ∙ first_there p rest)
+    in
     (omega arith, up.1)
 
 -- and lie above it
-pub terms_from_rise : (terms : List (List ℕ)) (v : Option ℕ) (above q : ℕ) → IsRising (terms_from terms v above q) →
+pub terms_from_rise : (terms : List (List ℕ)) (v : Option ℕ) (above q : ℕ)
+    → IsRising (terms_from terms v above q) →
     IsRisingFrom (above + 1) (terms_from terms v above q)
 terms_from_rise terms None above q up = tt
 terms_from_rise terms (Some v) above q up =

@@ -1,4 +1,5 @@
--- The rows of the values of a simple fluent, from the points at which each is initiated and terminated.
+-- The rows of the values of a simple fluent, from the points at which each is initiated and
+-- terminated.
 use Rattle.std.specs.Prelude.{ℕ, ◌<◌, ◌≤◌, List, [], ◌∷◌, map, length, Option, Some, None}
 use Rattle.std.specs.List.{range_with_len}
 use Rattle.ground_types.specs.Inertia.{has_value}
@@ -24,4 +25,5 @@ IsValueBelow count (Some v) = v < count
 
 -- the row of each value, in the order of the values
 abbrev pub rows_of : Option ℕ → List (List ℕ) → List (List ℕ) → ℕ → ℕ → List (List (ℕ × ℕ))
-rows_of opening inits terms w q = map (λ v. row (has_value opening inits terms w v) w q) (range_with_len 0 (length inits))
+rows_of opening inits terms w q = map (λ v. row (has_value opening inits terms w v) w q)
+    (range_with_len 0 (length inits))

@@ -1,5 +1,7 @@
 -- What a sweep over the points at which something happens does at each point.
-use Rattle.std.specs.Prelude.{◌≡◌, ℕ, ◌<◌, min, nat_lt, nat_le, Bool, true, false, ◌&&◌, ◌==◌, if◌then◌else◌, List, [], ◌∷◌, ◌++◌, filter, slice_set, slice_index_or, length, Option, Some, None}
+use Rattle.std.specs.Prelude.{◌≡◌, ℕ, ◌<◌, min, nat_lt, nat_le, Bool, true, false, ◌&&◌, ◌==◌}
+use Rattle.std.specs.Prelude.{if◌then◌else◌, List, [], ◌∷◌, ◌++◌, filter, slice_set, slice_index_or}
+use Rattle.std.specs.Prelude.{length, Option, Some, None}
 use Rattle.ground_types.specs.Truth.{is_value}
 use Rattle.span_algebra.specs.Normal.{IsNormal}
 use Rattle.span_algebra.specs.declared.spans.Span.{Span}
@@ -32,11 +34,13 @@ is_same (Some a) (Some b) = a == b
 -- the points above this one, up to and with q, at which a value is terminated
 abbrev pub terms_from : List (List ℕ) → Option ℕ → ℕ → ℕ → List ℕ
 terms_from terms None above q = []
-terms_from terms (Some v) above q = filter (λ t. nat_lt above t && nat_le t q) (slice_index_or terms v [])
+terms_from terms (Some v) above q = filter (λ t. nat_lt above t && nat_le t q)
+    (slice_index_or terms v [])
 
 -- the terminations that are left past a point after which the value is the next one
 abbrev pub terms_after : List (List ℕ) → List ℕ → Option ℕ → Option ℕ → ℕ → ℕ → List ℕ
-terms_after terms left current next at q = if is_same current next then after_point left at else terms_from terms next at q
+terms_after terms left current next at q = if is_same current next then after_point left at
+    else terms_from terms next at q
 
 -- where the span begins that is open after the point
 abbrev pub since_after : Option ℕ → ℕ → Option ℕ → ℕ → ℕ
@@ -47,10 +51,12 @@ since_after (Some c) since next at = if is_value next c then since else at
 abbrev pub rows_after : List (List Span) → Option ℕ → ℕ → Option ℕ → ℕ → List (List Span)
 rows_after rows None since next at = rows
 rows_after rows (Some c) since next at =
-    if is_value next c then rows else slice_set rows c (slice_index_or rows c [] ++ record { after = since; until = at } ∷ [])
+    if is_value next c then rows else slice_set rows c (slice_index_or rows c [] ++ record
+    { after = since; until = at } ∷ [])
 
 -- the span that ends there can go to the end of its row
 abbrev pub CanPass : List (List Span) → Option ℕ → ℕ → Option ℕ → ℕ → Type 0
 CanPass rows None since next at = Unit {0}
 CanPass rows (Some c) since next at =
-    (c < length rows) × (is_value next c ≡ false → IsNormal (slice_index_or rows c [] ++ record { after = since; until = at } ∷ []))
+    (c < length rows) × (is_value next c ≡ false
+    → IsNormal (slice_index_or rows c [] ++ record { after = since; until = at } ∷ []))

@@ -1,6 +1,7 @@
 // The points at which some value is initiated, each with the value that counts there.
 ghost use Rattle.std.specs.Prelude.{◌≡◌, ℕ, ◌<◌, ◌+◌, ◌^◌, length, map, IfOk};
-ghost use Rattle.simple_fluent.specs.Firsts.{least_with, RisesFrom, value_in, or_else, first_of, earlier, past_first};
+ghost use Rattle.simple_fluent.specs.Firsts.{least_with, RisesFrom, value_in, or_else, first_of};
+ghost use Rattle.simple_fluent.specs.Firsts.{earlier, past_first};
 
 use ground_types::Point;
 use rt_base::OutOfMemory;
@@ -58,7 +59,8 @@ fn merge(alloc: Global, one: &[First], two: &[First]) -> Result<Vec<First>, OutO
     requires one { RisesFrom 0 one.now }
     requires two { RisesFrom 0 two.now }
     ensures rises { IfOk result (λ out. RisesFrom 0 out.items) }
-    ensures each { IfOk result (λ out. (t : ℕ) → value_in out.items t ≡ or_else (value_in one.now t) (value_in two.now t)) }
+    ensures each { IfOk result (λ out. (t : ℕ) → value_in out.items t
+        ≡ or_else (value_in one.now t) (value_in two.now t)) }
 {
     let mut out = Vec::with_capacity(alloc, one.len())?;
     let mut one_left = one;
@@ -73,7 +75,8 @@ fn merge(alloc: Global, one: &[First], two: &[First]) -> Result<Vec<First>, OutO
 
 // The points of one value.
 fn of_one(alloc: Global, points: &[Point], value: usize) -> Result<Vec<First>, AllocError>
-    ensures { IfOk result (λ out. out.items ≡ map (λ p. record { at = p; value = value }) points.now) }
+    ensures { IfOk result (λ out. out.items ≡ map (λ p. record { at = p; value = value })
+        points.now) }
 {
     points
         .iter()
@@ -85,7 +88,8 @@ fn of_one(alloc: Global, points: &[Point], value: usize) -> Result<Vec<First>, A
 pub fn gather(alloc: Global, inits: &[Points], from: usize) -> Result<Vec<First>, OutOfMemory>
     requires { from + length inits.now < 2 ^ 64 }
     ensures rises { IfOk result (λ out. RisesFrom 0 out.items) }
-    ensures each { IfOk result (λ out. (t : ℕ) → value_in out.items t ≡ least_with from inits.now t) }
+    ensures each { IfOk result (λ out. (t : ℕ) → value_in out.items t ≡ least_with from inits.now
+        t) }
 {
     match inits {
         [] => Ok(Vec::new(alloc)),

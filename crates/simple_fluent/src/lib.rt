@@ -1,9 +1,10 @@
-//! The rows of a simple fluent over a window, from its value at the start of the window and the points at which each of
-//! its values is initiated and terminated.
-//! Its promise: the spans of a value are exactly the maximal runs of the points at which it holds by the law of
-//! inertia. It merges the initiations of all values by halves and goes over them in one sweep, looks the terminations of
-//! the value that holds up by halves, and walks no points of time between them.
-//! It stands on `span_algebra` for lists of points and spans, and on `ground_types` for what a row means.
+//! The rows of a simple fluent over a window, from its value at the start of the window and the
+//! points at which each of its values is initiated and terminated. Its promise: the spans of a
+//! value are exactly the maximal runs of the points at which it holds by the law of inertia. It
+//! merges the initiations of all values by halves and goes over them in one sweep, looks the
+//! terminations of the value that holds up by halves, and walks no points of time between them. It
+//! stands on `span_algebra` for lists of points and spans, and on `ground_types` for what a row
+//! means.
 #![tactic(auto)]
 
 ghost use Rattle.std.specs.Prelude.{◌≡◌, ◌<◌, ◌^◌, ◌-◌, length, map, IfOk};
@@ -32,18 +33,21 @@ fn number_of(value: Option<Value>) -> Option<usize>
     }
 }
 
-/// The row of each value over the window `(w, q]`, in the order of the values: its spans over the value points `w + 1`
-/// to `q + 1`, in whole points of time.
+/// The row of each value over the window `(w, q]`, in the order of the values: its spans over the
+/// value points `w + 1` to `q + 1`, in whole points of time.
 ///
-/// `opening` is the value at the first value point, and `inits` and `terms` have for each value the event points of the
-/// window at which it is initiated and terminated. A value goes on from point to point until it is terminated or another
-/// is initiated, by the law of inertia of the Run-Time Event Calculus. What happens at an event point counts from the next
-/// point on. The rules for ties are our own: at one point an initiation beats a termination, and of several values that are
-/// initiated there the one declared first counts. A value that is initiated breaks another that holds.
+/// `opening` is the value at the first value point, and `inits` and `terms` have for each value the
+/// event points of the window at which it is initiated and terminated. A value goes on from point
+/// to point until it is terminated or another is initiated, by the law of inertia of the Run-Time
+/// Event Calculus. What happens at an event point counts from the next point on. The rules for ties
+/// are our own: at one point an initiation beats a termination, and of several values that are
+/// initiated there the one declared first counts. A value that is initiated breaks another that
+/// holds.
 ///
-/// The one error is want of memory. Merging n initiations of k values takes about n log k steps. After that each
-/// initiation takes a step and at most two searches by halves among the terminations of its value; terminations of values
-/// that do not hold take none. Beside the rows, the memory grows by n.
+/// The one error is want of memory. Merging n initiations of k values takes about n log k steps.
+/// After that each initiation takes a step and at most two searches by halves among the
+/// terminations of its value; terminations of values that do not hold take none. Beside the rows,
+/// the memory grows by n.
 pub fn spans_of(
     alloc: Global,
     opening: Option<Value>,

@@ -1,10 +1,12 @@
 // The rows of all values, in one sweep over the points at which something happens.
-ghost use Rattle.std.specs.Prelude.{◌≡◌, ℕ, ◌≤◌, ◌<◌, ◌^◌, ◌+◌, ◌-◌, [], length, map, replicate, IfOk};
+ghost use Rattle.std.specs.Prelude.{◌≡◌, ℕ, ◌≤◌, ◌<◌, ◌^◌, ◌+◌, ◌-◌, [], length, map, replicate};
+ghost use Rattle.std.specs.Prelude.{IfOk};
 ghost use Rattle.std.specs.List.{AllByRecursion};
 ghost use Rattle.span_algebra.specs.Normal.{IsRising};
 ghost use Rattle.simple_fluent.specs.Rows.{pairs, rows_of, IsInside, IsValueBelow};
 ghost use Rattle.simple_fluent.specs.Firsts.{least_with, RisesFrom, value_in};
-ghost use Rattle.simple_fluent.specs.Sweep.{started, after_point, next_of, is_same, terms_from, terms_after, since_after, rows_after, CanPass};
+ghost use Rattle.simple_fluent.specs.Sweep.{started, after_point, next_of, is_same, terms_from};
+ghost use Rattle.simple_fluent.specs.Sweep.{terms_after, since_after, rows_after, CanPass};
 
 use crate::firsts::{First, rest_firsts};
 use ground_types::Point;
@@ -93,7 +95,8 @@ fn terms_past<'a>(
     }
 }
 
-// Goes over a point after which the value is the next one: where that is another, the span of the one before ends.
+// Goes over a point after which the value is the next one: where that is another, the span of the
+// one before ends.
 fn pass(
     rows: &mut Vec<Spans>,
     current: Option<usize>,
@@ -103,7 +106,8 @@ fn pass(
 ) -> Result<Point, OutOfMemory>
     requires { CanPass rows.old.items current since next at }
     ensures since { IfOk result (λ now. now ≡ since_after current since next at) }
-    ensures rows { IfOk result (λ now. rows.new.items ≡ rows_after rows.old.items current since next at) }
+    ensures rows { IfOk result (λ now. rows.new.items ≡ rows_after rows.old.items current since
+        next at) }
 {
     match (current, next) {
         (None, _) => Ok(at),
@@ -128,8 +132,8 @@ fn empty_rows(alloc: Global, count: usize) -> Result<Vec<Spans>, OutOfMemory>
     Ok(rows)
 }
 
-// The rows, from the first value initiated at each point. The span that is open at the end of the window goes on to the
-// last value point.
+// The rows, from the first value initiated at each point. The span that is open at the end of the
+// window goes on to the last value point.
 pub fn sweep(
     alloc: Global,
     opening: Option<usize>,

@@ -58,7 +58,8 @@ fn the_value_declared_first_wins(rt: HostRuntime) -> Result<(), Fail> {
     Ok(())
 }
 
-// An initiation of another value ends the one that holds, and a termination of another value does not.
+// An initiation of another value ends the one that holds, and a termination of another value does
+// not.
 #[test]
 fn a_value_breaks_another(rt: HostRuntime) -> Result<(), Fail> {
     let inits = [points(rt.alloc(), &[2])?, points(rt.alloc(), &[6])?];

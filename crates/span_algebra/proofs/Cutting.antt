@@ -1,5 +1,7 @@
 -- Rising points, and those of them at which spans hold.
-use Rattle.std.proofs.Common.{◌≡◌, ◌⊎◌, inl, inr, ℕ, ◌+◌, ◌<◌, ◌≤◌, Bool, true, false, cond, List, [], ◌∷◌, ◌++◌, filter, Some, None, refl, sym, ◌∙◌, ap, arith, append_assoc, append-nil}
+use Rattle.std.proofs.Common.{◌≡◌, ◌⊎◌, inl, inr, ℕ, ◌+◌, ◌<◌, ◌≤◌, Bool, true, false, cond, List}
+use Rattle.std.proofs.Common.{[], ◌∷◌, ◌++◌, filter, Some, None, refl, sym, ◌∙◌, ap, arith}
+use Rattle.std.proofs.Common.{append_assoc, append-nil}
 use Rattle.span_algebra.specs.declared.spans.Span.{Span}
 use Rattle.span_algebra.specs.Normal.{IsNormal, IsRising, IsRisingFrom, covers}
 use Rattle.span_algebra.specs.Walk.{span_of, rest_of, front_of, after_front}
@@ -7,42 +9,57 @@ use Rattle.span_algebra.proofs.Parts.{rising_lower}
 use Rattle.span_algebra.proofs.Covering.{covers_hit, covers_miss, covers_floor, normal_lower}
 
 -- a span that ends below the points does not count
-pub cut_drop : (s : Span) (rest : List Span) (p : ℕ) (points : List ℕ) → s.until < p → IsRisingFrom p points →
+pub cut_drop : (s : Span) (rest : List Span) (p : ℕ) (points : List ℕ) → s.until < p
+    → IsRisingFrom p points →
     filter (λ t. covers (s ∷ rest) t) points ≡ filter (λ t. covers rest t) points
 cut_drop s rest p [] lt rising = refl
 cut_drop s rest p (q ∷ qs) lt rising =
     rw (covers_miss s rest q (inr (omega (arith, rising.0))))
-    (ap (λ (r : List ℕ). cond (covers rest q) (q ∷ r) r) (cut_drop s rest (q + 1) qs (omega (arith, rising.0)) rising.1))
+    (ap (λ (r : List ℕ). cond (covers rest q) (q ∷ r) r) (cut_drop s rest (q + 1) qs
+    (omega (arith, rising.0)) rising.1))
 
-pub record IsCutting (within : List Span) (points : List ℕ) (spans_left : List Span) (points_left out : List ℕ) : Type 0 where
+pub record IsCutting (within : List Span) (points : List ℕ) (spans_left : List Span)
+    (points_left out : List ℕ) : Type 0 where
   pub normal : IsNormal spans_left
   pub rising : IsRising points_left
-  pub same : out ++ filter (λ t. covers spans_left t) points_left ≡ filter (λ t. covers within t) points
+  pub same : out ++ filter (λ t. covers spans_left t) points_left ≡ filter (λ t. covers within t)
+      points
 
-pub cut_span : (within : List Span) (points : List ℕ) (s : Span) (spans : List Span) (p : ℕ) (ps out : List ℕ) →
-    IsCutting within points (s ∷ spans) (p ∷ ps) out → s.until < p → IsCutting within points spans (p ∷ ps) out
+pub cut_span : (within : List Span) (points : List ℕ) (s : Span) (spans : List Span) (p : ℕ)
+    (ps out : List ℕ) →
+    IsCutting within points (s ∷ spans) (p ∷ ps) out → s.until < p
+    → IsCutting within points spans (p ∷ ps) out
 cut_span within points s spans p ps out c lt = record {
   normal = normal_lower (s.until + 1) 0 spans c.normal.2 (omega arith);
   rising = c.rising;
-  same = ap (λ (r : List ℕ). out ++ r) (sym (cut_drop s spans p (p ∷ ps) lt (omega arith, c.rising.1))) ∙ c.same;
+  same = ap (λ (r : List ℕ). out ++ r) (sym (cut_drop s spans p (p ∷ ps) lt (
+    omega arith,
+    c.rising.1,
+  ))) ∙ c.same;
 }
 
-taken_by : (test : ℕ → Bool) (p : ℕ) (ps out : List ℕ) → test p ≡ true → (out ++ p ∷ []) ++ filter test ps ≡ out ++ filter test (p ∷ ps)
+taken_by : (test : ℕ → Bool) (p : ℕ) (ps out : List ℕ) → test p ≡ true
+    → (out ++ p ∷ []) ++ filter test ps ≡ out ++ filter test (p ∷ ps)
 taken_by test p ps out is = rw (is, append_assoc) refl
 
-left_by : (test : ℕ → Bool) (p : ℕ) (ps out : List ℕ) → test p ≡ false → out ++ filter test ps ≡ out ++ filter test (p ∷ ps)
+left_by : (test : ℕ → Bool) (p : ℕ) (ps out : List ℕ) → test p ≡ false → out ++ filter test ps
+    ≡ out ++ filter test (p ∷ ps)
 left_by test p ps out is = rw is refl
 
-pub cut_take : (within : List Span) (points : List ℕ) (s : Span) (spans : List Span) (p : ℕ) (ps out : List ℕ) →
-    IsCutting within points (s ∷ spans) (p ∷ ps) out → p ≤ s.until → s.after < p → IsCutting within points (s ∷ spans) ps (out ++ p ∷ [])
+pub cut_take : (within : List Span) (points : List ℕ) (s : Span) (spans : List Span) (p : ℕ)
+    (ps out : List ℕ) →
+    IsCutting within points (s ∷ spans) (p ∷ ps) out → p ≤ s.until → s.after < p
+    → IsCutting within points (s ∷ spans) ps (out ++ p ∷ [])
 cut_take within points s spans p ps out c high low = record {
   normal = c.normal;
   rising = rising_lower (p + 1) 0 ps c.rising.1 (omega arith);
   same = taken_by (λ t. covers (s ∷ spans) t) p ps out (covers_hit s spans p low high) ∙ c.same;
 }
 
-pub cut_leave : (within : List Span) (points : List ℕ) (s : Span) (spans : List Span) (p : ℕ) (ps out : List ℕ) →
-    IsCutting within points (s ∷ spans) (p ∷ ps) out → p ≤ s.after → IsCutting within points (s ∷ spans) ps out
+pub cut_leave : (within : List Span) (points : List ℕ) (s : Span) (spans : List Span) (p : ℕ)
+    (ps out : List ℕ) →
+    IsCutting within points (s ∷ spans) (p ∷ ps) out → p ≤ s.after
+    → IsCutting within points (s ∷ spans) ps out
 cut_leave within points s spans p ps out c low = record {
   normal = c.normal;
   rising = rising_lower (p + 1) 0 ps c.rising.1 (omega arith);
@@ -55,14 +72,17 @@ none_left [] = refl
 none_left (p ∷ rest) = none_left rest
 
 pub cutting_end : (within : List Span) (points : List ℕ) (spans : List Span) (ps out : List ℕ) →
-    IsCutting within points spans ps out → (ps ≡ []) ⊎ (spans ≡ []) → out ≡ filter (λ t. covers within t) points
+    IsCutting within points spans ps out → (ps ≡ []) ⊎ (spans ≡ [])
+    → out ≡ filter (λ t. covers within t) points
 cutting_end within points spans ps out c (inl is) = sym (append-nil out) ∙ rw is at c.same
 cutting_end within points spans ps out c (inr is) =
     sym (append-nil out) ∙ ap (λ (r : List ℕ). out ++ r) (sym (none_left ps)) ∙ rw is at c.same
 
 -- the same, from what the calls of one turn ensure
-pub turn_span : (within : List Span) (points : List ℕ) (spans : List Span) (ps out : List ℕ) (s : Span) (p : ℕ) →
-    IsCutting within points spans ps out → Some p ≡ front_of ps → Some s ≡ span_of spans → s.until < p → IsCutting within points (rest_of spans) ps out
+pub turn_span : (within : List Span) (points : List ℕ) (spans : List Span) (ps out : List ℕ)
+    (s : Span) (p : ℕ) →
+    IsCutting within points spans ps out → Some p ≡ front_of ps → Some s ≡ span_of spans
+    → s.until < p → IsCutting within points (rest_of spans) ps out
 turn_span within points [] ps out s p c at is lt = cc
 turn_span within points (x ∷ xs) [] out s p c at is lt = cc
 turn_span within points (x ∷ xs) (y ∷ ys) out s p c at is lt =
@@ -70,18 +90,23 @@ turn_span within points (x ∷ xs) (y ∷ ys) out s p c at is lt =
     let point : p ≡ y = cc in
     cut_span within points x xs y ys out c (rw (← span, ← point) lt)
 
-pub turn_take : (within : List Span) (points : List ℕ) (spans : List Span) (ps out : List ℕ) (s : Span) (p : ℕ) →
-    IsCutting within points spans ps out → Some p ≡ front_of ps → Some s ≡ span_of spans → p ≤ s.until → s.after < p →
+pub turn_take : (within : List Span) (points : List ℕ) (spans : List Span) (ps out : List ℕ)
+    (s : Span) (p : ℕ) →
+    IsCutting within points spans ps out → Some p ≡ front_of ps → Some s ≡ span_of spans
+    → p ≤ s.until → s.after < p →
     IsCutting within points spans (after_front ps) (out ++ p ∷ [])
 turn_take within points [] ps out s p c at is le lt = cc
 turn_take within points (x ∷ xs) [] out s p c at is le lt = cc
 turn_take within points (x ∷ xs) (y ∷ ys) out s p c at is le lt =
     let span : s ≡ x = cc in
     let point : p ≡ y = cc in
-    rw point (cut_take within points x xs y ys out c (rw (← span, ← point) le) (rw (← span, ← point) lt))
+    rw point (cut_take within points x xs y ys out c (rw (← span, ← point) le)
+    (rw (← span, ← point) lt))
 
-pub turn_leave : (within : List Span) (points : List ℕ) (spans : List Span) (ps out : List ℕ) (s : Span) (p : ℕ) →
-    IsCutting within points spans ps out → Some p ≡ front_of ps → Some s ≡ span_of spans → p ≤ s.after →
+pub turn_leave : (within : List Span) (points : List ℕ) (spans : List Span) (ps out : List ℕ)
+    (s : Span) (p : ℕ) →
+    IsCutting within points spans ps out → Some p ≡ front_of ps → Some s ≡ span_of spans
+    → p ≤ s.after →
     IsCutting within points spans (after_front ps) out
 turn_leave within points [] ps out s p c at is le = cc
 turn_leave within points (x ∷ xs) [] out s p c at is le = cc

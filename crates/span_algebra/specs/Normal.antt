@@ -1,12 +1,14 @@
 -- Normal lists of spans, rising lists of points, and the points that they have.
-use Rattle.std.specs.Prelude.{ℕ, ◌+◌, ◌<◌, ◌≤◌, nat_lt, nat_le, Bool, not, ◌&&◌, ◌==◌, if◌then◌else◌, List, [], ◌∷◌, length, take}
+use Rattle.std.specs.Prelude.{ℕ, ◌+◌, ◌<◌, ◌≤◌, nat_lt, nat_le, Bool, not, ◌&&◌, ◌==◌}
+use Rattle.std.specs.Prelude.{if◌then◌else◌, List, [], ◌∷◌, length, take}
 use Rattle.std.specs.List.{list_any}
 use Rattle.span_algebra.specs.declared.spans.Span.{Span}
 
 -- each span begins at the floor or above, is not empty, and ends below the beginning of the next
 abbrev pub IsNormalFrom : ℕ → List Span → Type 0
 IsNormalFrom floor [] = Unit {0}
-IsNormalFrom floor (s ∷ rest) = (floor ≤ s.after) × (s.after < s.until) × IsNormalFrom (s.until + 1) rest
+IsNormalFrom floor (s ∷ rest) = (floor ≤ s.after) × (s.after < s.until)
+    × IsNormalFrom (s.until + 1) rest
 
 -- a normal list of spans: they rise, none is empty, and no two touch or overlap
 abbrev pub IsNormal : List Span → Type 0
@@ -34,7 +36,8 @@ abbrev pub has : List ℕ → ℕ → Bool
 has points t = list_any (λ p. p == t) points
 
 -- the first item that breaks a rule: the rule holds of the items before it, and not with it
-pub record IsFirstBad {X : Type 0} (Rule : List X → Type 0) (items : List X) (place : ℕ) : Type 0 where
-  pub within : place < length items
-  pub before : Rule (take place items)
-  pub here : Rule (take (place + 1) items) → ⊥
+pub record IsFirstBad {X : Type 0} (Rule : List X → Type 0) (items : List X) (place : ℕ) : Type 0
+  where
+    pub within : place < length items
+    pub before : Rule (take place items)
+    pub here : Rule (take (place + 1) items) → ⊥

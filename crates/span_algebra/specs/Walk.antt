@@ -1,5 +1,6 @@
 -- Many lists of spans walked over side by side, border by border.
-use Rattle.std.specs.Prelude.{ℕ, ◌≡◌, ◌⊎◌, nat_lt, Bool, true, false, not, ◌&&◌, ◌==◌, if◌then◌else◌, List, [], ◌∷◌, length, filter, All, Option, Some, None}
+use Rattle.std.specs.Prelude.{ℕ, ◌≡◌, ◌⊎◌, nat_lt, Bool, true, false, not, ◌&&◌, ◌==◌}
+use Rattle.std.specs.Prelude.{if◌then◌else◌, List, [], ◌∷◌, length, filter, All, Option, Some, None}
 use Rattle.std.specs.List.{sum_by}
 use Rattle.std.specs.List.Sorted.{IsPermutation}
 use Rattle.std.specs.Ordering.{nat_cmp, on, flip_args}
@@ -18,7 +19,8 @@ use Rattle.span_algebra.specs.declared.walk.Test.TheVariants.{SomeAndNone, Exact
 abbrev pub count_at : List (List Span) → ℕ → ℕ
 count_at lists t = length (filter (λ l. covers l t) lists)
 
--- what a test comes to where so many of the lists that are wanted have a point, and so many of those that are barred
+-- what a test comes to where so many of the lists that are wanted have a point, and so many of
+-- those that are barred
 abbrev pub answer_of : Test → ℕ → ℕ → Bool
 answer_of SomeAndNone wanted barred = nat_lt 0 wanted && barred == 0
 answer_of (Exactly count) wanted barred = wanted == count
@@ -110,9 +112,11 @@ pub record IsPast (c n : Cursor) : Type 0 where
   pub side : n.side ≡ c.side
   pub front : front_of (borders_of n) ≡ Some n.at
 
--- the lists after one more has passed its border: it is among them for its next border, or it had none
+-- the lists after one more has passed its border: it is among them for its next border, or it had
+-- none
 abbrev pub IsPassed : Cursor → List Cursor → List Cursor → Type 0
-IsPassed c rest cursors = ((n : Cursor) × IsPast c n × IsPermutation (n ∷ rest) cursors) ⊎ ((after_front (borders_of c) ≡ []) × (cursors ≡ rest))
+IsPassed c rest cursors = ((n : Cursor) × IsPast c n × IsPermutation (n ∷ rest) cursors)
+    ⊎ ((after_front (borders_of c) ≡ []) × (cursors ≡ rest))
 
 -- where the span begins that is open after a point past which the answer holds, or not
 abbrev pub begun_after : Option ℕ → Bool → ℕ → Option ℕ

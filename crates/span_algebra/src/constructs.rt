@@ -18,11 +18,13 @@ fn lent(alloc: Global, lists: &[Spans]) -> Result<Vec<&Spans>, OutOfMemory>
     Ok(lent)
 }
 
-/// The points that some list has, over lists that are lent: `union_all` of the Run-Time Event Calculus. Spans
-/// `(after, until]` that touch or overlap become one, and no list gives no span. One walk over the borders of all lists, each
-/// at a cost of the logarithm of their number; beside the answer it takes a place for each list. The one error is want of memory.
+/// The points that some list has, over lists that are lent: `union_all` of the Run-Time Event
+/// Calculus. Spans `(after, until]` that touch or overlap become one, and no list gives no span.
+/// One walk over the borders of all lists, each at a cost of the logarithm of their number; beside
+/// the answer it takes a place for each list. The one error is want of memory.
 pub fn union_of(alloc: Global, lists: &[&Spans]) -> Result<Spans, OutOfMemory>
-    ensures { IfOk result (λ out. (t : ℕ) → covers out t ≡ list_any (λ l. covers l.now t) lists.now) }
+    ensures { IfOk result (λ out. (t : ℕ) → covers out t ≡ list_any (λ l. covers l.now t)
+        lists.now) }
 {
     let mut cursors = BinaryHeap::with_capacity(alloc, lists.len())?;
     add_all(&mut cursors, Side::Wanted, lists)?;
@@ -39,12 +41,13 @@ pub fn union_all(alloc: Global, lists: &[Spans]) -> Result<Spans, OutOfMemory>
     Ok(out)
 }
 
-/// The points that each of the lists has, of which there is one at least, over lists that are lent: `intersect_all` of the
-/// Run-Time Event Calculus. One walk over the borders of all spans `(after, until]`, as for a union. The one error is want of
-/// memory.
+/// The points that each of the lists has, of which there is one at least, over lists that are lent:
+/// `intersect_all` of the Run-Time Event Calculus. One walk over the borders of all spans `(after,
+/// until]`, as for a union. The one error is want of memory.
 pub fn intersection_of(alloc: Global, lists: &[&Spans]) -> Result<Spans, OutOfMemory>
     requires some { 0 < length lists.now }
-    ensures { IfOk result (λ out. (t : ℕ) → covers out t ≡ list_all (λ l. covers l.now t) lists.now) }
+    ensures { IfOk result (λ out. (t : ℕ) → covers out t ≡ list_all (λ l. covers l.now t)
+        lists.now) }
 {
     let mut cursors = BinaryHeap::with_capacity(alloc, lists.len())?;
     add_all(&mut cursors, Side::Wanted, lists)?;
@@ -62,14 +65,16 @@ pub fn intersect_all(alloc: Global, lists: &[Spans]) -> Result<Spans, OutOfMemor
     Ok(out)
 }
 
-/// The points that the first list has and none of the others, which are lent: `relative_complement_all` of the Run-Time
-/// Event Calculus. One walk over the borders of all spans `(after, until]`, as for a union. The one error is want of memory.
+/// The points that the first list has and none of the others, which are lent:
+/// `relative_complement_all` of the Run-Time Event Calculus. One walk over the borders of all spans
+/// `(after, until]`, as for a union. The one error is want of memory.
 pub fn complement_of<'a>(
     alloc: Global,
     first: &'a Spans,
     others: &[&'a Spans],
 ) -> Result<Spans, OutOfMemory>
-    ensures { IfOk result (λ out. (t : ℕ) → covers out t ≡ (covers first.now t && not (list_any (λ l. covers l.now t) others.now))) }
+    ensures { IfOk result (λ out. (t : ℕ)
+        → covers out t ≡ (covers first.now t && not (list_any (λ l. covers l.now t) others.now))) }
 {
     let mut cursors = BinaryHeap::with_capacity(alloc, others.len().saturating_add(1))?;
     add(&mut cursors, Side::Wanted, first.as_slice())?;
@@ -84,17 +89,20 @@ pub fn relative_complement_all(
     first: &Spans,
     others: &[Spans],
 ) -> Result<Spans, OutOfMemory>
-    ensures { IfOk result (λ out. (t : ℕ) → covers out t ≡ (covers first.now t && not (list_any (λ l. covers l t) others.now))) }
+    ensures { IfOk result (λ out. (t : ℕ)
+        → covers out t ≡ (covers first.now t && not (list_any (λ l. covers l t) others.now))) }
 {
     let others = lent(alloc, others)?;
     let out = complement_of(alloc, first, others.as_slice())?;
     Ok(out)
 }
 
-/// The points of the list above `w`, up to and with `last`: its spans `(after, until]`, cut to the span `(w, last]`, which
-/// may be empty. One walk over the list. The one error is want of memory. The construct is our own.
+/// The points of the list above `w`, up to and with `last`: its spans `(after, until]`, cut to the
+/// span `(w, last]`, which may be empty. One walk over the list. The one error is want of memory.
+/// The construct is our own.
 pub fn clip(alloc: Global, list: &Spans, w: Point, last: Point) -> Result<Spans, OutOfMemory>
-    ensures { IfOk result (λ out. (t : ℕ) → covers out t ≡ (covers list.now t && nat_lt w t && nat_le t last)) }
+    ensures { IfOk result (λ out. (t : ℕ) → covers out t ≡ (covers list.now t && nat_lt w t
+        && nat_le t last)) }
 {
     if w >= last {
         return Ok(Spans::new(alloc));
@@ -110,10 +118,11 @@ pub fn clip(alloc: Global, list: &Spans, w: Point, last: Point) -> Result<Spans,
     Ok(out)
 }
 
-/// The points that just one of the two lists has. One walk over the spans `(after, until]` of both. The one error is want
-/// of memory. The construct is our own.
+/// The points that just one of the two lists has. One walk over the spans `(after, until]` of both.
+/// The one error is want of memory. The construct is our own.
 pub fn differ(alloc: Global, one: &Spans, two: &Spans) -> Result<Spans, OutOfMemory>
-    ensures { IfOk result (λ out. (t : ℕ) → covers out t ≡ exactly_one (covers one.now t) (covers two.now t)) }
+    ensures { IfOk result (λ out. (t : ℕ) → covers out t ≡ exactly_one (covers one.now t)
+        (covers two.now t)) }
 {
     let mut cursors = BinaryHeap::with_capacity(alloc, 2)?;
     add(&mut cursors, Side::Wanted, one.as_slice())?;

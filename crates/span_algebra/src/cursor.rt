@@ -16,7 +16,8 @@ pub(crate) enum Side {
     Barred,
 }
 
-// A list with borders left: the next border, whether the list holds up to it, and the spans from the one of this border on.
+// A list with borders left: the next border, whether the list holds up to it, and the spans from
+// the one of this border on.
 #[derive(Clone, Copy)]
 pub(crate) struct Cursor<'a> {
     pub(crate) at: Point,
@@ -42,7 +43,8 @@ impl Eq for Cursor<'_> {
 impl PartialOrd for Cursor<'_> {
     ghost partial_cmp = { as_partial_cmp (on (λ c. c.at) (flip_args nat_cmp)) };
 
-    ghost laws = { partial_order_from_own_ties (Prim.search (comparing, rules)) (Prim.search (comparing, rules)) };
+    ghost laws = { partial_order_from_own_ties (Prim.search (comparing, rules))
+        (Prim.search (comparing, rules)) };
 
     fn partial_cmp(&self, other: &Self) -> Option<Ordering> {
         Some(self.cmp(other))
@@ -68,7 +70,8 @@ impl<'a> Cursor<'a> {
     // Before the first border of a list, if it has one.
     #[inline]
     pub(crate) fn before(side: Side, spans: &'a [Span]) -> Option<Cursor<'a>>
-        ensures some { IfSome result (λ c. (front_of (borders_of c) ≡ Some c.at) × (c.inside ≡ false) × (c.left.now ≡ spans.now) × (c.side ≡ side)) }
+        ensures some { IfSome result (λ c. (front_of (borders_of c) ≡ Some c.at)
+            × (c.inside ≡ false) × (c.left.now ≡ spans.now) × (c.side ≡ side)) }
         ensures none { IfNone result (spans.now ≡ []) }
     {
         let [first, ..] = spans else {

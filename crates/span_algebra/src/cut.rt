@@ -47,8 +47,8 @@ fn rest_spans(spans: &[Span]) -> &[Span]
     }
 }
 
-/// The points at which some span `(after, until]` of `within` holds, in rising order. One walk over the points and the
-/// spans. The one error is want of memory. The construct is our own.
+/// The points at which some span `(after, until]` of `within` holds, in rising order. One walk over
+/// the points and the spans. The one error is want of memory. The construct is our own.
 pub fn cut_points(alloc: Global, points: &Points, within: &Spans) -> Result<Points, OutOfMemory>
     ensures { IfOk result (λ out. out ≡ filter (covers within.now) points.now) }
 {

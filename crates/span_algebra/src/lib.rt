@@ -1,8 +1,9 @@
-//! Lists of spans and of points of time, which the rows of fluents and events are made of.
-//! Its promise: every list is in normal form (spans that rise, none empty and no two touching; points that rise), so
-//! that it is fixed by the points that it has, and a look-up answers exactly whether a point is among them. The interval
-//! constructs give exactly the points that their names say. Those that make spans go by one walk over the borders of all
-//! lists, each at a cost of the logarithm of their number. It stands on `rt_base` alone.
+//! Lists of spans and of points of time, which the rows of fluents and events are made of. Its
+//! promise: every list is in normal form (spans that rise, none empty and no two touching; points
+//! that rise), so that it is fixed by the points that it has, and a look-up answers exactly whether
+//! a point is among them. The interval constructs give exactly the points that their names say.
+//! Those that make spans go by one walk over the borders of all lists, each at a cost of the
+//! logarithm of their number. It stands on `rt_base` alone.
 #![tactic(auto)]
 
 mod constructs;

@@ -1,5 +1,7 @@
 // Rising lists of points.
-ghost use Rattle.std.specs.Prelude.{◌≡◌, ◌↔◌, ◌+◌, ◌<◌, ◌==◌, ◌||◌, ◌&&◌, not, nat_lt, nat_le, ℕ, [], length, take, filter, IsTrue, OnOk, OnErr, IfOk, IfSome, IfNone, IsOkUnless};
+ghost use Rattle.std.specs.Prelude.{◌≡◌, ◌↔◌, ◌+◌, ◌<◌, ◌==◌, ◌||◌, ◌&&◌, not, nat_lt, nat_le, ℕ};
+ghost use Rattle.std.specs.Prelude.{[], length, take, filter, IsTrue, OnOk, OnErr, IfOk, IfSome};
+ghost use Rattle.std.specs.Prelude.{IfNone, IsOkUnless};
 ghost use Rattle.span_algebra.specs.Normal.{IsRising, IsFirstBad, has};
 
 use crate::{ListRefused, Point};
@@ -58,13 +60,14 @@ impl Points {
         }
     }
 
-    /// A copy of a list, if it rises. Another is refused as `NotNormal`, at its first point that is not above the one
-    /// before it. A rising one is refused only as `OutOfMemory`.
+    /// A copy of a list, if it rises. Another is refused as `NotNormal`, at its first point that is
+    /// not above the one before it. A rising one is refused only as `OutOfMemory`.
     pub fn from_list(alloc: Global, list: &[Point]) -> Result<Points, ListRefused>
         ensures ok { IfOk result (λ points. points ≡ list.now) }
         ensures rising { OnOk result (IsRising list.now) }
         ensures taken { IsRising list.now → IsOkUnless result ListRefused.OutOfMemory }
-        ensures not_normal { (place : ℕ) → (result ≡ Err (ListRefused.NotNormal place)) ↔ IsFirstBad IsRising list.now place }
+        ensures not_normal { (place : ℕ) → (result ≡ Err (ListRefused.NotNormal place))
+            ↔ IsFirstBad IsRising list.now place }
     {
         if let Some(place) = first_bad(list) {
             return Err(ListRefused::NotNormal { place });
@@ -118,8 +121,8 @@ impl Points {
         &above[..above.partition_point(|point| *point <= q)]
     }
 
-    /// Puts a point among them, and says whether it was not there. The search goes by halves, and the points above it move up
-    /// by one place. `OutOfMemory` leaves the points as they were.
+    /// Puts a point among them, and says whether it was not there. The search goes by halves, and
+    /// the points above it move up by one place. `OutOfMemory` leaves the points as they were.
     pub fn insert(&mut self, at: Point) -> Result<bool, OutOfMemory>
         ensures added { IfOk result (λ added. added ≡ not (has self.old at)) }
         ensures points { OnOk result ((t : ℕ) → has self.new t ≡ (has self.old t || (t == at))) }
@@ -134,8 +137,8 @@ impl Points {
         }
     }
 
-    /// Takes a point away, and says whether it was there. The search goes by halves, and the points above it move down by one
-    /// place. It takes no memory.
+    /// Takes a point away, and says whether it was there. The search goes by halves, and the points
+    /// above it move down by one place. It takes no memory.
     pub fn remove(&mut self, at: Point) -> bool
         ensures removed { result ≡ has self.old at }
         ensures points { (t : ℕ) → has self.new t ≡ (has self.old t && not (t == at)) }

@@ -1,5 +1,6 @@
 // Normal lists of spans.
-ghost use Rattle.std.specs.Prelude.{◌≡◌, ◌↔◌, ◌+◌, ◌<◌, ◌++◌, ◌∷◌, ℕ, [], length, take, IsTrue, OnOk, OnErr, IfOk, IfSome, IfNone, IsOkUnless};
+ghost use Rattle.std.specs.Prelude.{◌≡◌, ◌↔◌, ◌+◌, ◌<◌, ◌++◌, ◌∷◌, ℕ, [], length, take, IsTrue};
+ghost use Rattle.std.specs.Prelude.{OnOk, OnErr, IfOk, IfSome, IfNone, IsOkUnless};
 ghost use Rattle.span_algebra.specs.Normal.{IsNormal, IsFirstBad, covers};
 
 use crate::{ListRefused, Point};
@@ -7,8 +8,8 @@ use rt_base::OutOfMemory;
 use std::alloc::Global;
 use std::marker::Model;
 
-/// The span `(after, until]`: the points after `after`, up to and with `until`. It is empty unless `after` is below
-/// `until`.
+/// The span `(after, until]`: the points after `after`, up to and with `until`. It is empty unless
+/// `after` is below `until`.
 #[derive(Clone, Copy, Debug, PartialEq, Eq)]
 pub struct Span {
     /// The point before its first.
@@ -70,13 +71,15 @@ impl Spans {
         }
     }
 
-    /// A copy of a list, if it is normal. Another is refused as `NotNormal`, at its first span that is empty, or that
-    /// touches or overlaps the one before it. A normal one is refused only as `OutOfMemory`.
+    /// A copy of a list, if it is normal. Another is refused as `NotNormal`, at its first span that
+    /// is empty, or that touches or overlaps the one before it. A normal one is refused only as
+    /// `OutOfMemory`.
     pub fn from_list(alloc: Global, list: &[Span]) -> Result<Spans, ListRefused>
         ensures ok { IfOk result (λ spans. spans ≡ list.now) }
         ensures normal { OnOk result (IsNormal list.now) }
         ensures taken { IsNormal list.now → IsOkUnless result ListRefused.OutOfMemory }
-        ensures not_normal { (place : ℕ) → (result ≡ Err (ListRefused.NotNormal place)) ↔ IsFirstBad IsNormal list.now place }
+        ensures not_normal { (place : ℕ) → (result ≡ Err (ListRefused.NotNormal place))
+            ↔ IsFirstBad IsNormal list.now place }
     {
         if let Some(place) = first_bad(list) {
             return Err(ListRefused::NotNormal { place });
@@ -87,7 +90,8 @@ impl Spans {
         }
     }
 
-    /// The spans of a vector, which have to be a normal list. Nothing is copied: it takes no memory.
+    /// The spans of a vector, which have to be a normal list. Nothing is copied: it takes no
+    /// memory.
     pub fn of(alloc: Global, spans: Vec<Span>) -> Spans
         requires { IsNormal spans.items }
         ensures { result ≡ spans.items }
@@ -124,8 +128,8 @@ impl Spans {
         self.spans.as_slice()
     }
 
-    /// Whether some span has the point: it lies after the span's `after`, up to and with its `until`. The search goes
-    /// by halves, and takes no memory.
+    /// Whether some span has the point: it lies after the span's `after`, up to and with its
+    /// `until`. The search goes by halves, and takes no memory.
     pub fn holds(&self, at: Point) -> bool
         ensures { result ≡ covers self.now at }
     {

@@ -1,8 +1,11 @@
 // One walk over the borders of many lists of spans, for every construct that makes spans.
-ghost use Rattle.std.specs.Prelude.{◌≡◌, ◌+◌, ◌≤◌, ◌<◌, ◌^◌, ◌++◌, not, false, true, ℕ, Bool, map, All, IfOk, OnOk, Option, Some, None, if◌then◌else◌};
+ghost use Rattle.std.specs.Prelude.{◌≡◌, ◌+◌, ◌≤◌, ◌<◌, ◌^◌, ◌++◌, not, false, true, ℕ, Bool, map};
+ghost use Rattle.std.specs.Prelude.{All, IfOk, OnOk, Option, Some, None, if◌then◌else◌};
 ghost use Rattle.std.specs.BinaryHeap.{IsHeap, heap_items, heap_len};
 ghost use Rattle.span_algebra.specs.Normal.{IsNormal, covers};
-ghost use Rattle.span_algebra.specs.Walk.{answer_of, count_at, count_on, one_on, held_on, counted_on, is_at, first_at, by_border, AreCursors, IsPassed, begun_after, closed_at};
+ghost use Rattle.span_algebra.specs.Walk.{answer_of, count_at, count_on, one_on, held_on};
+ghost use Rattle.span_algebra.specs.Walk.{counted_on, is_at, first_at, by_border, AreCursors};
+ghost use Rattle.span_algebra.specs.Walk.{IsPassed, begun_after, closed_at};
 
 use crate::cursor::{Cursor, Side};
 use crate::{Point, Span, Spans};
@@ -10,8 +13,8 @@ use rt_base::OutOfMemory;
 use std::alloc::Global;
 use std::collections::BinaryHeap;
 
-// What is asked of a point: that some list that is wanted has it and none that is barred, or that exactly so many that are
-// wanted have it.
+// What is asked of a point: that some list that is wanted has it and none that is barred, or that
+// exactly so many that are wanted have it.
 #[derive(Clone, Copy)]
 pub(crate) enum Test {
     SomeAndNone,
@@ -38,9 +41,11 @@ fn answer(test: Test, held: Held) -> bool
 // One more of the lists holds, or one fewer.
 #[inline]
 fn held_past(held: Held, cursor: &Cursor<'_>) -> Held
-    requires less { (side : Side) → one_on side cursor.now.inside cursor.now.side ≤ held_on side held }
+    requires less { (side : Side) → one_on side cursor.now.inside cursor.now.side ≤ held_on side
+        held }
     requires more { (side : Side) → held_on side held + 1 < 2 ^ 64 }
-    ensures { (side : Side) → held_on side result + one_on side cursor.now.inside cursor.now.side ≡ held_on side held + one_on side (not cursor.now.inside) cursor.now.side }
+    ensures { (side : Side) → held_on side result + one_on side cursor.now.inside cursor.now.side
+        ≡ held_on side held + one_on side (not cursor.now.inside) cursor.now.side }
 {
     match (cursor.side, cursor.inside) {
         (Side::Wanted, false) => Held {
@@ -66,7 +71,9 @@ fn held_past(held: Held, cursor: &Cursor<'_>) -> Held
 #[inline]
 fn stands_at(cursors: &BinaryHeap<Cursor<'_>>, at: Point) -> bool
     ensures front { result ≡ is_at (first_at (heap_items cursors.now)) at }
-    ensures least { (p : ℕ) → first_at (heap_items cursors.now) ≡ Some p → IsHeap by_border (heap_items cursors.now) → All (λ c. p ≤ c.at) (heap_items cursors.now) }
+    ensures least { (p : ℕ) → first_at (heap_items cursors.now) ≡ Some p
+        → IsHeap by_border (heap_items cursors.now)
+        → All (λ c. p ≤ c.at) (heap_items cursors.now) }
 {
     match cursors.peek() {
         None => false,
@@ -74,7 +81,8 @@ fn stands_at(cursors: &BinaryHeap<Cursor<'_>>, at: Point) -> bool
     }
 }
 
-// Past the point the answer holds, or not: a span begins, goes on or ends. It gives where the span begins that is open.
+// Past the point the answer holds, or not: a span begins, goes on or ends. It gives where the span
+// begins that is open.
 #[inline]
 fn pass(
     out: &mut Vec<Span>,
@@ -105,7 +113,8 @@ pub(crate) fn add<'a>(
     requires normal { IsNormal spans.now }
     requires cursors { AreCursors (heap_items cursors.old) }
     ensures cursors { OnOk result (AreCursors (heap_items cursors.new)) }
-    ensures each { OnOk result ((to : Side) (t : ℕ) → count_on to (heap_items cursors.new) t ≡ count_on to (heap_items cursors.old) t + one_on to (covers spans.now t) side) }
+    ensures each { OnOk result ((to : Side) (t : ℕ) → count_on to (heap_items cursors.new) t
+        ≡ count_on to (heap_items cursors.old) t + one_on to (covers spans.now t) side) }
 {
     if let Some(cursor) = Cursor::before(side, spans) {
         cursors.push(cursor)?;
@@ -121,7 +130,9 @@ pub(crate) fn add_all<'a>(
 ) -> Result<(), OutOfMemory>
     requires { AreCursors (heap_items cursors.old) }
     ensures cursors { OnOk result (AreCursors (heap_items cursors.new)) }
-    ensures each { OnOk result ((to : Side) (t : ℕ) → count_on to (heap_items cursors.new) t ≡ count_on to (heap_items cursors.old) t + counted_on to side (count_at (map (λ l. l.now) lists.now) t)) }
+    ensures each { OnOk result ((to : Side) (t : ℕ) → count_on to (heap_items cursors.new) t
+        ≡ count_on to (heap_items cursors.old) t + counted_on to side
+        (count_at (map (λ l. l.now) lists.now) t)) }
 {
     for list in lists {
         add(cursors, side, list.as_slice())?;
@@ -131,8 +142,10 @@ pub(crate) fn add_all<'a>(
 
 // A list goes past its border, and back among the others if it has another.
 fn put_back<'a>(cursors: &mut BinaryHeap<Cursor<'a>>, cursor: Cursor<'a>) -> Result<(), OutOfMemory>
-    ensures passed { OnOk result (IsPassed cursor.entry (heap_items cursors.old) (heap_items cursors.new)) }
-    ensures ordered { OnOk result (IsHeap by_border (heap_items cursors.old) → IsHeap by_border (heap_items cursors.new)) }
+    ensures passed { OnOk result (IsPassed cursor.entry (heap_items cursors.old)
+        (heap_items cursors.new)) }
+    ensures ordered { OnOk result (IsHeap by_border (heap_items cursors.old)
+        → IsHeap by_border (heap_items cursors.new)) }
 {
     if let Some(next) = cursor.past() {
         cursors.push(next)?;
@@ -140,8 +153,8 @@ fn put_back<'a>(cursors: &mut BinaryHeap<Cursor<'a>>, cursor: Cursor<'a>) -> Res
     Ok(())
 }
 
-// The points that pass the test. Each list comes out of the heap at its next border, and goes back for the one after it. A point
-// that no list has must not pass: such points have no end.
+// The points that pass the test. Each list comes out of the heap at its next border, and goes back
+// for the one after it. A point that no list has must not pass: such points have no end.
 pub(crate) fn walk(
     alloc: Global,
     test: Test,
@@ -149,7 +162,9 @@ pub(crate) fn walk(
 ) -> Result<Spans, OutOfMemory>
     requires cursors { AreCursors (heap_items cursors) }
     requires none { answer_of test 0 0 ≡ false }
-    ensures { IfOk result (λ out. (t : ℕ) → covers out t ≡ answer_of test (count_on Side.Wanted (heap_items cursors.entry) t) (count_on Side.Barred (heap_items cursors.entry) t)) }
+    ensures { IfOk result (λ out. (t : ℕ)
+        → covers out t ≡ answer_of test (count_on Side.Wanted (heap_items cursors.entry) t)
+        (count_on Side.Barred (heap_items cursors.entry) t)) }
 {
     let mut out = Vec::new(alloc);
     let mut begun = None;

@@ -1,8 +1,10 @@
 -- Where every row lies within a window, so does every expression over them.
-use Rattle.std.proofs.Common.{◌≡◌, ℕ, ◌<◌, ◌≤◌, ◌+◌, Bool, true, false, not, ◌||◌, ◌==◌, ◌⊎◌, inl, inr, List, slice_get, refl}
+use Rattle.std.proofs.Common.{◌≡◌, ℕ, ◌<◌, ◌≤◌, ◌+◌, Bool, true, false, not, ◌||◌, ◌==◌, ◌⊎◌, inl}
+use Rattle.std.proofs.Common.{inr, List, slice_get, refl}
 use Rattle.ground_types.specs.Truth.{expr_holds, some_holds, each_holds}
 use Rattle.ground_types.specs.Sound.{member_count}
-use Rattle.ground_types.specs.declared.program.Expr.{Expr, Row, Union', Intersect', Complement', Row_of-Expr, end_of-Expr, more_of-Expr}
+use Rattle.ground_types.specs.declared.program.Expr.{Expr, Row, Union', Intersect', Complement'}
+use Rattle.ground_types.specs.declared.program.Expr.{Row_of-Expr, end_of-Expr, more_of-Expr}
 use Rattle.ground_types.proofs.Members.{and_left, and_right}
 use Rattle.layer_cache.specs.Told.{told, fluent_has}
 use Rattle.span_algebra.specs.declared.rows.UnitRows.{UnitRows}
@@ -12,25 +14,37 @@ either : (a b : Bool) → (a || b) ≡ true → (a ≡ true) ⊎ (b ≡ true)
 either true b is = inl refl
 either false b is = inr is
 
-module _ (rows : List UnitRows) (w q : ℕ) (inside : (unit v t : ℕ) → fluent_has (slice_get rows unit) v t ≡ true → (w < t) × (t ≤ q + 1)) where
+module _ (rows : List UnitRows) (w q : ℕ) (inside : (unit v t : ℕ)
+    → fluent_has (slice_get rows unit) v t ≡ true → (w < t) × (t ≤ q + 1)) where
   mutual
-    pub expr_inside : (expr : Expr) → has_members expr ≡ true → (t : ℕ) → expr_holds (told rows) expr t ≡ true → (w < t) × (t ≤ q + 1)
+    pub expr_inside : (expr : Expr) → has_members expr ≡ true → (t : ℕ)
+        → expr_holds (told rows) expr t ≡ true → (w < t) × (t ≤ q + 1)
     expr_inside (Row unit v) has t is = inside unit v t is
     expr_inside (Union' shape members) has t is = some_inside members has t is
     expr_inside (Intersect' shape members) has t is =
-        each_inside members (and_left (not (member_count members == 0)) (all_have_members members) has) (and_right (not (member_count members == 0)) (all_have_members members) has) t is
+        each_inside members (and_left (not (member_count members == 0)) (all_have_members members)
+        has) (and_right (not (member_count members == 0)) (all_have_members members) has) t is
     expr_inside (Complement' p first shape others) has t is =
-        expr_inside first (and_left (has_members first) (all_have_members others) has) t (and_left (expr_holds (told rows) first t) (not (some_holds (told rows) others t)) is)
+        expr_inside first (and_left (has_members first) (all_have_members others) has) t
+        (and_left (expr_holds (told rows) first t) (not (some_holds (told rows) others t)) is)
 
-    some_inside : {m : _} (members : Row_of-Expr m) → all_have_members members ≡ true → (t : ℕ) → some_holds (told rows) members t ≡ true → (w < t) × (t ≤ q + 1)
+    some_inside : {m : _} (members : Row_of-Expr m) → all_have_members members ≡ true → (t : ℕ)
+        → some_holds (told rows) members t ≡ true → (w < t) × (t ≤ q + 1)
     some_inside end_of-Expr has t is = cc
-    some_inside (more_of-Expr member rest) has t is = elim (either (expr_holds (told rows) member t) (some_holds (told rows) rest t) is) [
-      | inl here ↦ expr_inside member (and_left (has_members member) (all_have_members rest) has) t here
-      | inr later ↦ some_inside rest (and_right (has_members member) (all_have_members rest) has) t later
-    ]
+    some_inside (more_of-Expr member rest) has t is =
+        elim (either (expr_holds (told rows) member t) (some_holds (told rows) rest t) is) [
+          | inl here ↦ expr_inside member (and_left (has_members member) (all_have_members rest)
+              has) t
+              here
+          | inr later ↦ some_inside rest (and_right (has_members member) (all_have_members rest)
+              has) t
+              later
+        ]
 
-    each_inside : {m : _} (members : Row_of-Expr m) → not (member_count members == 0) ≡ true → all_have_members members ≡ true → (t : ℕ) → each_holds (told rows) members t ≡ true →
+    each_inside : {m : _} (members : Row_of-Expr m) → not (member_count members == 0) ≡ true
+        → all_have_members members ≡ true → (t : ℕ) → each_holds (told rows) members t ≡ true →
         (w < t) × (t ≤ q + 1)
     each_inside end_of-Expr some has t is = cc
     each_inside (more_of-Expr member rest) some has t is =
-        expr_inside member (and_left (has_members member) (all_have_members rest) has) t (and_left (expr_holds (told rows) member t) (each_holds (told rows) rest t) is)
+        expr_inside member (and_left (has_members member) (all_have_members rest) has) t
+        (and_left (expr_holds (told rows) member t) (each_holds (told rows) rest t) is)

@@ -3,7 +3,8 @@ use Rattle.std.specs.Prelude.{ℕ, nat_lt, Bool, true, not, ◌&&◌, ◌==◌, 
 use Rattle.std.specs.List.{list_all}
 use Rattle.ground_types.specs.Meaning.{units_of_expr}
 use Rattle.ground_types.specs.Sound.{member_count}
-use Rattle.ground_types.specs.declared.program.Expr.{Expr, Row, Union', Intersect', Complement', Row_of-Expr, end_of-Expr, more_of-Expr}
+use Rattle.ground_types.specs.declared.program.Expr.{Expr, Row, Union', Intersect', Complement'}
+use Rattle.ground_types.specs.declared.program.Expr.{Row_of-Expr, end_of-Expr, more_of-Expr}
 use Rattle.span_algebra.specs.declared.spans.Span.{Span}
 use Rattle.static_fluent.specs.declared.rows.Member.{Member}
 use Rattle.static_fluent.specs.declared.rows.Member.TheVariants.{Lent, Made}
@@ -17,7 +18,8 @@ abbrev mutual
   pub has_members : Expr → Bool
   has_members (Row unit v) = true
   has_members (Union' shape members) = all_have_members members
-  has_members (Intersect' shape members) = not (member_count members == 0) && all_have_members members
+  has_members (Intersect' shape members) = not (member_count members == 0) && all_have_members
+      members
   has_members (Complement' p first shape others) = has_members first && all_have_members others
 
   pub all_have_members : {m : _} → Row_of-Expr m → Bool

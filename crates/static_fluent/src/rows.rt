@@ -1,5 +1,6 @@
 // The rows of expressions.
-ghost use Rattle.std.specs.Prelude.{◌≡◌, ◌<◌, ◌&&◌, not, nat_lt, ℕ, true, false, map, length, slice_get, IfOk, IfSome, IfNone};
+ghost use Rattle.std.specs.Prelude.{◌≡◌, ◌<◌, ◌&&◌, not, nat_lt, ℕ, true, false, map, length};
+ghost use Rattle.std.specs.Prelude.{slice_get, IfOk, IfSome, IfNone};
 ghost use Rattle.std.specs.List.{list_any, list_all};
 ghost use Rattle.ground_types.specs.Truth.{expr_holds};
 ghost use Rattle.ground_types.specs.Meaning.{units_of_expr};
@@ -23,7 +24,8 @@ enum Member<'a> {
 // The row of a fluent's value, and no span where there is none.
 fn member_of(alloc: Global, cache: &Cache, unit: UnitId, value: Value) -> Member<'_>
     requires { unit < length cache.now.rows }
-    ensures { (t : ℕ) → covers (spans_in result) t ≡ fluent_has (slice_get cache.now.rows unit) value t }
+    ensures { (t : ℕ) → covers (spans_in result) t ≡ fluent_has (slice_get cache.now.rows unit)
+        value t }
 {
     match value_row(cache.row(unit), value) {
         Some(row) => Member::Lent(row),
@@ -52,7 +54,8 @@ fn lent<'m>(alloc: Global, members: &'m [Member<'_>]) -> Result<Vec<&'m Spans>, 
 }
 
 fn united(alloc: Global, members: &[Member<'_>]) -> Result<Spans, OutOfMemory>
-    ensures { IfOk result (λ out. (t : ℕ) → covers out t ≡ list_any (λ m. covers (spans_in m) t) members.now) }
+    ensures { IfOk result (λ out. (t : ℕ) → covers out t ≡ list_any (λ m. covers (spans_in m) t)
+        members.now) }
 {
     let lists = lent(alloc, members)?;
     let out = union_of(alloc, lists.as_slice())?;
@@ -61,7 +64,8 @@ fn united(alloc: Global, members: &[Member<'_>]) -> Result<Spans, OutOfMemory>
 
 fn shared(alloc: Global, members: &[Member<'_>]) -> Result<Spans, OutOfMemory>
     requires { 0 < length members.now }
-    ensures { IfOk result (λ out. (t : ℕ) → covers out t ≡ list_all (λ m. covers (spans_in m) t) members.now) }
+    ensures { IfOk result (λ out. (t : ℕ) → covers out t ≡ list_all (λ m. covers (spans_in m) t)
+        members.now) }
 {
     let lists = lent(alloc, members)?;
     let out = intersection_of(alloc, lists.as_slice())?;
@@ -69,7 +73,8 @@ fn shared(alloc: Global, members: &[Member<'_>]) -> Result<Spans, OutOfMemory>
 }
 
 fn left_over(alloc: Global, first: &Member<'_>, others: &[Member<'_>]) -> Result<Spans, OutOfMemory>
-    ensures { IfOk result (λ out. (t : ℕ) → covers out t ≡ (covers (spans_in first.now) t && not (list_any (λ m. covers (spans_in m) t) others.now))) }
+    ensures { IfOk result (λ out. (t : ℕ) → covers out t ≡ (covers (spans_in first.now) t
+        && not (list_any (λ m. covers (spans_in m) t) others.now))) }
 {
     let lists = lent(alloc, others)?;
     let out = complement_of(alloc, spans_in(first), lists.as_slice())?;
@@ -81,7 +86,8 @@ fn left_over(alloc: Global, first: &Member<'_>, others: &[Member<'_>]) -> Result
 fn evaluate<'a>(alloc: Global, expr: &Expr, cache: &'a Cache) -> Result<Member<'a>, OutOfMemory>
     requires rows { has_rows (length cache.now.rows) expr.now ≡ true }
     requires members { has_members expr.now ≡ true }
-    ensures { IfOk result (λ member. (t : ℕ) → covers (spans_in member) t ≡ expr_holds (told cache.now.rows) expr.now t) }
+    ensures { IfOk result (λ member. (t : ℕ) → covers (spans_in member) t
+        ≡ expr_holds (told cache.now.rows) expr.now t) }
 {
     match expr {
         Expr::Row(unit, value) => Ok(member_of(alloc, cache, *unit, *value)),
@@ -115,7 +121,8 @@ fn evaluate_all<'a>(
 ) -> Result<Vec<Member<'a>>, OutOfMemory>
     requires rows { list_all (has_rows (length cache.now.rows)) exprs.now ≡ true }
     requires members { list_all has_members exprs.now ≡ true }
-    ensures { IfOk result (λ members. (t : ℕ) → map (λ m. covers (spans_in m) t) members.items ≡ map (λ expr. expr_holds (told cache.now.rows) expr t) exprs.now) }
+    ensures { IfOk result (λ members. (t : ℕ) → map (λ m. covers (spans_in m) t) members.items
+        ≡ map (λ expr. expr_holds (told cache.now.rows) expr t) exprs.now) }
 {
     let mut members = Vec::with_capacity(alloc, exprs.len())?;
     for expr in exprs {
@@ -134,15 +141,18 @@ fn owned(member: Member<'_>) -> Result<Spans, OutOfMemory>
     }
 }
 
-/// The spans `(after, until]` at whose points an expression over the intervals of fluent-values is true, from the rows that a
-/// cache has now: a statically determined fluent of the Run-Time Event Calculus. The units that it names have to have rows,
-/// and each of its intersections a member. A value without a row holds nowhere. Rows are lent: a union or an intersection of one
-/// member is that member, and every other construct walks once over the borders of its members and makes one list. A row that is
-/// the whole answer is copied. The one error is want of memory.
+/// The spans `(after, until]` at whose points an expression over the intervals of fluent-values is
+/// true, from the rows that a cache has now: a statically determined fluent of the Run-Time Event
+/// Calculus. The units that it names have to have rows, and each of its intersections a member. A
+/// value without a row holds nowhere. Rows are lent: a union or an intersection of one member is
+/// that member, and every other construct walks once over the borders of its members and makes one
+/// list. A row that is the whole answer is copied. The one error is want of memory.
 pub fn spans_of_expr(alloc: Global, expr: &Expr, cache: &Cache) -> Result<Spans, OutOfMemory>
-    requires rows { list_all (λ unit. nat_lt unit (length cache.now.rows)) (units_of_expr expr.now) ≡ true }
+    requires rows { list_all (λ unit. nat_lt unit (length cache.now.rows)) (units_of_expr expr.now)
+        ≡ true }
     requires members { has_members expr.now ≡ true }
-    ensures each { IfOk result (λ spans. (t : ℕ) → covers spans t ≡ expr_holds (told cache.now.rows) expr.now t) }
+    ensures each { IfOk result (λ spans. (t : ℕ) → covers spans t
+        ≡ expr_holds (told cache.now.rows) expr.now t) }
     ensures normal { IfOk result (λ spans. IsNormal spans) }
 {
     let found = evaluate(alloc, expr, cache)?;

@@ -1,5 +1,7 @@
 -- Names that sound rules define are declared, and are no inputs.
-use Rattle.std.proofs.Common.{◌≡◌, ℕ, Bool, true, false, true≢false, not, ◌||◌, List, [], ◌∷◌, ◌++◌, map, flat_map, slice_get, Option, Some, None, refl, sym, ap, subst, ◌∙◌, if◌then◌else◌}
+use Rattle.std.proofs.Common.{◌≡◌, ℕ, Bool, true, false, true≢false, not, ◌||◌, List, [], ◌∷◌, ◌++◌}
+use Rattle.std.proofs.Common.{map, flat_map, slice_get, Option, Some, None, refl, sym, ap, subst}
+use Rattle.std.proofs.Common.{◌∙◌, if◌then◌else◌}
 use Rattle.std.specs.List.{list_any}
 use Rattle.std.specs.Str.{bytes_eq}
 use Rattle.ground_types.specs.declared.program.Domain.{Domain}
@@ -8,12 +10,17 @@ use Rattle.ground_types.specs.declared.program.NameKind.{NameKind}
 use Rattle.ground_types.specs.declared.program.NameKind.TheVariants as name_kind
 use Rattle.ground_types.specs.Sound.{is_input}
 use Rattle.rule_read.specs.declared.syntax.Statement.{Statement}
-use Rattle.rule_read.specs.Forms.{PlainForm, plain, plain_form, Window, Step, From, Queries, Domain as DomainForm, Input, Simple, Static, Derived, Initially, Initiated, Terminated, Happens, HoldsFor}
+use Rattle.rule_read.specs.Forms.{PlainForm, plain, plain_form, Window, Step, From, Queries}
+use Rattle.rule_read.specs.Forms.{Domain as DomainForm, Input, Simple, Static, Derived, Initially}
+use Rattle.rule_read.specs.Forms.{Initiated, Terminated, Happens, HoldsFor}
 use Rattle.rule_read.specs.Sound.{AllOf}
 use Rattle.domain_decl.specs.Lists.{has, place_in, Fault, first_fault}
 use Rattle.domain_decl.specs.Contents.{name_words}
-use Rattle.domain_decl.specs.Mentions.{SimpleFluent, StaticFluent, DerivedEvent, Mention, fits, head_of, body_mentions, conditions_of, leaves_of, mentions}
-use Rattle.domain_decl.specs.Rules.{has_too_many, lacks_trigger, names_undeclared, differs_in_kind, is_of_wrong_kind, has_wrong_arity, has_undeclared_word, has_clash, has_loose_variable, rule_fault}
+use Rattle.domain_decl.specs.Mentions.{SimpleFluent, StaticFluent, DerivedEvent, Mention, fits}
+use Rattle.domain_decl.specs.Mentions.{head_of, body_mentions, conditions_of, leaves_of, mentions}
+use Rattle.domain_decl.specs.Rules.{has_too_many, lacks_trigger, names_undeclared, differs_in_kind}
+use Rattle.domain_decl.specs.Rules.{is_of_wrong_kind, has_wrong_arity, has_undeclared_word}
+use Rattle.domain_decl.specs.Rules.{has_clash, has_loose_variable, rule_fault}
 use Rattle.domain_decl.specs.declared.checked.DeclRefused.TheVariants as refused
 use Rattle.domain_decl.specs.Sound.{IsSoundRule}
 use Rattle.domain_decl.proofs.LookUps.{declaration_by_place, no_declaration_by_place}
@@ -28,17 +35,24 @@ pub record IsHead (names : List Name) (word : List ℕ) : Type 0 where
   pub at : slice_get names place ≡ Some name
   pub computed : is_input name.kind ≡ false
 
-fourth_false : (a b c d : Bool) (f g h i : Fault) (rest : List (Bool × Fault)) → first_fault ((a, f) ∷ (b, g) ∷ (c, h) ∷ (d, i) ∷ rest) ≡ None → d ≡ false
+fourth_false : (a b c d : Bool) (f g h i : Fault) (rest : List (Bool × Fault))
+    → first_fault ((a, f) ∷ (b, g) ∷ (c, h) ∷ (d, i) ∷ rest) ≡ None → d ≡ false
 fourth_false true b c d f g h i rest e = absurd (cc)
 fourth_false false true c d f g h i rest e = absurd (cc)
 fourth_false false false true d f g h i rest e = absurd (cc)
 fourth_false false false false true f g h i rest e = absurd (cc)
 fourth_false false false false false f g h i rest e = refl
 
-right_kinds : (domains : List Domain) (names : List Name) (form : PlainForm) → rule_fault domains names form ≡ None → list_any (is_of_wrong_kind names) (mentions form) ≡ false
+right_kinds : (domains : List Domain) (names : List Name) (form : PlainForm)
+    → rule_fault domains names form ≡ None → list_any (is_of_wrong_kind names) (mentions form)
+    ≡ false
 right_kinds domains names form h =
-    fourth_false (has_too_many form) (lacks_trigger form) (list_any (names_undeclared domains names) (mentions form)) (list_any (is_of_wrong_kind names) (mentions form)) _ _ _ _
-    ((list_any (has_wrong_arity names) (mentions form), refused.Arity) ∷ (list_any (has_undeclared_word domains names) (mentions form), refused.Undeclared) ∷ (has_clash names form, refused.Clash) ∷ (has_loose_variable form, refused.Loose) ∷ []) h
+    fourth_false (has_too_many form) (lacks_trigger form)
+    (list_any (names_undeclared domains names) (mentions form))
+    (list_any (is_of_wrong_kind names) (mentions form)) _ _ _ _
+    ((list_any (has_wrong_arity names) (mentions form), refused.Arity)
+    ∷ (list_any (has_undeclared_word domains names) (mentions form), refused.Undeclared)
+    ∷ (has_clash names form, refused.Clash) ∷ (has_loose_variable form, refused.Loose) ∷ []) h
 
 simple_kind : (kind : NameKind) → fits SimpleFluent kind ≡ true → is_input kind ≡ false
 simple_kind name_kind.Input e = absurd (true≢false (sym e))
@@ -60,7 +74,8 @@ derived_kind name_kind.Derived e = refl
 
 data HasHead (form : PlainForm) : Type 0 where
   no_head : head_of form ≡ [] → HasHead form
-  one_head : (m : Mention) → head_of form ≡ m ∷ [] → ((kind : NameKind) → fits m.role kind ≡ true → is_input kind ≡ false) → HasHead form
+  one_head : (m : Mention) → head_of form ≡ m ∷ [] → ((kind : NameKind) → fits m.role kind ≡ true
+      → is_input kind ≡ false) → HasHead form
 
 heads : (form : PlainForm) → HasHead form
 heads (Window n) = no_head refl
@@ -90,38 +105,55 @@ not_false : (a : Bool) → not a ≡ false → a ≡ true
 not_false true e = refl
 not_false false e = sym e
 
-module _ (names : List Name) (m : Mention) (kinds : (kind : NameKind) → fits m.role kind ≡ true → is_input kind ≡ false) (right : is_of_wrong_kind names m ≡ false) where
-  by_name : (i : ℕ) → place_in (name_words names) m.atom.name ≡ Some i → (o : Option Name) → slice_get names i ≡ o → IsHead names m.atom.name
+module _ (names : List Name) (m : Mention) (kinds : (kind : NameKind) → fits m.role kind ≡ true
+    → is_input kind ≡ false) (right : is_of_wrong_kind names m ≡ false) where
+  by_name : (i : ℕ) → place_in (name_words names) m.atom.name ≡ Some i → (o : Option Name)
+      → slice_get names i ≡ o → IsHead names m.atom.name
   by_name i e None at =
-      absurd (true≢false (ap (differs_in_kind m.role) (sym (declaration_by_place names m.atom.name i e ∙ at)) ∙ right))
+      absurd (true≢false (ap (differs_in_kind m.role)
+      (sym (declaration_by_place names m.atom.name i e ∙ at)) ∙ right))
   by_name i e (Some name) at = record {
     place = i;
     name = name;
     found = e;
     at = at;
-    computed = kinds name.kind (not_false (fits m.role name.kind) (ap (differs_in_kind m.role) (sym (declaration_by_place names m.atom.name i e ∙ at)) ∙ right));
+    computed = kinds name.kind (not_false (fits m.role name.kind) (ap (differs_in_kind m.role)
+        (sym (declaration_by_place names m.atom.name i e ∙ at)) ∙ right));
   }
 
   by_place : (o : Option ℕ) → place_in (name_words names) m.atom.name ≡ o → IsHead names m.atom.name
-  by_place None e = absurd (true≢false (ap (differs_in_kind m.role) (sym (no_declaration_by_place names m.atom.name e)) ∙ right))
+  by_place None e = absurd (true≢false (ap (differs_in_kind m.role)
+      (sym (no_declaration_by_place names m.atom.name e)) ∙ right))
   by_place (Some i) e = by_name i e (slice_get names i) refl
 
-defined : (domains : List Domain) (names : List Name) (form : PlainForm) (word : List ℕ) → rule_fault domains names form ≡ None → defines word form ≡ true → HasHead form → IsHead names word
-defined domains names form word sound def (no_head e) = absurd (true≢false (sym def ∙ ap (list_any (λ m. bytes_eq m.atom.name word)) e))
+defined : (domains : List Domain) (names : List Name) (form : PlainForm) (word : List ℕ)
+    → rule_fault domains names form ≡ None → defines word form ≡ true → HasHead form
+    → IsHead names word
+defined domains names form word sound def (no_head e) =
+    absurd (true≢false (sym def ∙ ap (list_any (λ m. bytes_eq m.atom.name word)) e))
 defined domains names form word sound def (one_head m e kinds) =
-    let same : m.atom.name ≡ word = same_word m.atom.name word (or_none (bytes_eq m.atom.name word) (sym (ap (list_any (λ k. bytes_eq k.atom.name word)) e) ∙ def)) in
+    let same : m.atom.name ≡ word = same_word m.atom.name word (or_none (bytes_eq m.atom.name word)
+    (sym (ap (list_any (λ k. bytes_eq k.atom.name word)) e) ∙ def)) in
     let behind = flat_map body_mentions (conditions_of form) ++ leaves_of form in
     let right : is_of_wrong_kind names m ≡ false =
     or_left (is_of_wrong_kind names m) (list_any (is_of_wrong_kind names) behind)
-    (sym (ap (λ hs. list_any (is_of_wrong_kind names) (hs ++ behind)) e) ∙ right_kinds domains names form sound) in
-    subst (IsHead names) same (by_place names m kinds right (place_in (name_words names) m.atom.name) refl)
+    (sym (ap (λ hs. list_any (is_of_wrong_kind names) (hs ++ behind)) e)
+    ∙ right_kinds domains names form sound) in
+    subst (IsHead names) same (by_place names m kinds right (place_in (name_words names)
+    m.atom.name) refl)
 
 -- a name in whose bodies something occurs is declared, and is no input
-pub has_head : (domains : List Domain) (names : List Name) (rs : List Statement) → AllOf (IsSoundRule domains names) rs → (word other : List ℕ) → occurs (map plain rs) other word ≡ true → IsHead names word
+pub has_head : (domains : List Domain) (names : List Name) (rs : List Statement)
+    → AllOf (IsSoundRule domains names) rs → (word other : List ℕ)
+    → occurs (map plain rs) other word ≡ true → IsHead names word
 has_head domains names [] sound word other o = absurd (true≢false (sym o))
-has_head domains names (r ∷ rs) sound word other o = by (defines word (plain_form r.form)) refl (has_head domains names rs sound.1 word other)
+has_head domains names (r ∷ rs) sound word other o = by (defines word (plain_form r.form)) refl
+    (has_head domains names rs sound.1 word other)
   where
-    by : (b : Bool) → defines word (plain_form r.form) ≡ b → (occurs (map plain rs) other word ≡ true → IsHead names word) → IsHead names word
-    by true e rest = defined domains names (plain_form r.form) word sound.0.2 e (heads (plain_form r.form))
+    by : (b : Bool) → defines word (plain_form r.form) ≡ b
+        → (occurs (map plain rs) other word ≡ true → IsHead names word) → IsHead names word
+    by true e rest = defined domains names (plain_form r.form) word sound.0.2 e
+        (heads (plain_form r.form))
     by false e rest =
-        rest (sym (ap (λ c. has ((if c then body_of (plain_form r.form) else []) ++ bodies_of (map plain rs) word) other) e) ∙ o)
+        rest (sym (ap (λ c. has ((if c then body_of (plain_form r.form) else []) ++ bodies_of
+        (map plain rs) word) other) e) ∙ o)

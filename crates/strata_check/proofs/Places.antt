@@ -1,21 +1,29 @@
 -- Names by the places of their words.
-use Rattle.std.proofs.Common.{◌≡◌, inl, inr, ℕ, zero, suc, ◌+◌, ◌<◌, nat_lt, Bool, true, false, true≢false, not, cond, ◌||◌, ◌&&◌, List, [], ◌∷◌, ◌++◌, length, map, filter_map, flat_map, set, take, slice_get, get_or, Option, Some, None, refl, sym, ap, subst, ◌∙◌, arith, if◌then◌else◌, option_map, append-nil}
+use Rattle.std.proofs.Common.{◌≡◌, inl, inr, ℕ, zero, suc, ◌+◌, ◌<◌, nat_lt, Bool, true, false}
+use Rattle.std.proofs.Common.{true≢false, not, cond, ◌||◌, ◌&&◌, List, [], ◌∷◌, ◌++◌, length, map}
+use Rattle.std.proofs.Common.{filter_map, flat_map, set, take, slice_get, get_or, Option, Some}
+use Rattle.std.proofs.Common.{None, refl, sym, ap, subst, ◌∙◌, arith, if◌then◌else◌, option_map}
+use Rattle.std.proofs.Common.{append-nil}
 use Rattle.std.proofs.lemmas.Bool.Decides.{nat_tests}
 use Rattle.std.proofs.lemmas.List.{length-set, append_assoc, take_more, flat_map_more}
 use Rattle.std.proofs.lemmas.List.Elements.{filter_map-append}
 use Rattle.std.proofs.lemmas.List.Quantifiers.{position-Some}
-use Rattle.std.proofs.lemmas.Option.{slice_get_within, slice_get-get_or, slice_get-map, get_or_from_slice_get}
+use Rattle.std.proofs.lemmas.Option.{slice_get_within, slice_get-get_or, slice_get-map}
+use Rattle.std.proofs.lemmas.Option.{get_or_from_slice_get}
 use Rattle.std.proofs.lemmas.Slice.Eq.{bytes_eq-Decides}
 use Rattle.std.specs.List.{list_any, position_or_len, cons_option}
 use Rattle.std.specs.Str.{bytes_eq}
 use Rattle.ground_types.specs.declared.program.Name.{Name}
 use Rattle.ground_types.specs.Sound.{is_distinct}
-use Rattle.rule_read.specs.Forms.{PlainForm, PlainStatement, Window, Step, From, Queries, Domain, Input, Simple, Static, Derived, Initially, Initiated, Terminated, Happens, HoldsFor}
+use Rattle.rule_read.specs.Forms.{PlainForm, PlainStatement, Window, Step, From, Queries, Domain}
+use Rattle.rule_read.specs.Forms.{Input, Simple, Static, Derived, Initially, Initiated, Terminated}
+use Rattle.rule_read.specs.Forms.{Happens, HoldsFor}
 use Rattle.domain_decl.specs.Lists.{place_in}
 use Rattle.domain_decl.specs.Contents.{name_words}
 use Rattle.domain_decl.specs.Mentions.{Mention, head_of, body_mentions, conditions_of, leaves_of}
 use Rattle.strata_check.specs.Occurrences.{defines, body_of, bodies_of}
-use Rattle.strata_check.specs.Rows.{row_at, places_of, mention_places, body_places, add_at, with_rule, AreRows}
+use Rattle.strata_check.specs.Rows.{row_at, places_of, mention_places, body_places, add_at}
+use Rattle.strata_check.specs.Rows.{with_rule, AreRows}
 use Rattle.strata_check.proofs.Marks.{set_cases, set_same}
 
 -- ---- places of words
@@ -26,7 +34,8 @@ same_word a b e = (bytes_eq-Decides a b).0 e
 pub equal_word : (a b : List ℕ) → a ≡ b → bytes_eq a b ≡ true
 equal_word a b e = (bytes_eq-Decides a b).1 e
 
-any_at : (q : List ℕ → Bool) (xs : List (List ℕ)) (k : ℕ) (w : List ℕ) → slice_get xs k ≡ Some w → q w ≡ true → list_any q xs ≡ true
+any_at : (q : List ℕ → Bool) (xs : List (List ℕ)) (k : ℕ) (w : List ℕ) → slice_get xs k ≡ Some w
+    → q w ≡ true → list_any q xs ≡ true
 any_at q [] k w e t = absurd (cc)
 any_at q (x ∷ xs) zero w e t = let same : x ≡ w = cc in ap (λ b. b || list_any q xs) (ap q same ∙ t)
 any_at q (x ∷ xs) (suc k) w e t = or_true (q x) (list_any q xs) (any_at q xs k w e t)
@@ -43,38 +52,52 @@ and_right : (a b : Bool) → (a && b) ≡ true → b ≡ true
 and_right true b e = e
 and_right false b e = absurd (true≢false (sym e))
 
-first_place : (words : List (List ℕ)) (k : ℕ) (w : List ℕ) → is_distinct words ≡ true → slice_get words k ≡ Some w → position_or_len (λ o. bytes_eq o w) words ≡ k
+first_place : (words : List (List ℕ)) (k : ℕ) (w : List ℕ) → is_distinct words ≡ true
+    → slice_get words k ≡ Some w → position_or_len (λ o. bytes_eq o w) words ≡ k
 first_place [] k w d e = absurd (cc)
-first_place (x ∷ xs) zero w d e = let same : x ≡ w = cc in ap (λ b. cond (not b) (1 + position_or_len (λ o. bytes_eq o w) xs) 0) (equal_word x w same)
+first_place (x ∷ xs) zero w d e = let same : x ≡ w = cc in
+    ap (λ b. cond (not b) (1 + position_or_len (λ o. bytes_eq o w) xs) 0) (equal_word x w same)
 first_place (x ∷ xs) (suc k) w d e =
-    let rest : position_or_len (λ o. bytes_eq o w) xs ≡ k = first_place xs k w (and_right (not (list_any (bytes_eq x) xs)) (is_distinct xs) d) e in
+    let rest : position_or_len (λ o. bytes_eq o w) xs ≡ k =
+    first_place xs k w (and_right (not (list_any (bytes_eq x) xs)) (is_distinct xs) d) e in
     by (bytes_eq x w) refl ∙ ap suc rest
   where
-    by : (b : Bool) → bytes_eq x w ≡ b → cond (not (bytes_eq x w)) (1 + position_or_len (λ o. bytes_eq o w) xs) 0 ≡ suc (position_or_len (λ o. bytes_eq o w) xs)
-    by true f = absurd (apart (list_any (bytes_eq x) xs) (is_distinct xs) (bytes_eq x w) d f (λ t. any_at (bytes_eq x) xs k w e t))
-    by false f = ap (λ b. cond (not b) (1 + position_or_len (λ o. bytes_eq o w) xs) 0) f ∙ omega arith
+    by : (b : Bool) → bytes_eq x w ≡ b → cond (not (bytes_eq x w))
+        (1 + position_or_len (λ o. bytes_eq o w) xs) 0 ≡ suc (position_or_len (λ o. bytes_eq o w)
+        xs)
+    by true f = absurd (apart (list_any (bytes_eq x) xs) (is_distinct xs) (bytes_eq x w) d f
+        (λ t. any_at (bytes_eq x) xs k w e t))
+    by false f = ap (λ b. cond (not b) (1 + position_or_len (λ o. bytes_eq o w) xs) 0) f
+        ∙ omega arith
 
 -- a word of different ones is found at its place
-pub place_here : (words : List (List ℕ)) (k : ℕ) (w : List ℕ) → is_distinct words ≡ true → slice_get words k ≡ Some w → place_in words w ≡ Some k
+pub place_here : (words : List (List ℕ)) (k : ℕ) (w : List ℕ) → is_distinct words ≡ true
+    → slice_get words k ≡ Some w → place_in words w ≡ Some k
 place_here words k w d e =
     let inside = slice_get_within words k w e in
     let lt : nat_lt k (length words) ≡ true = grind (arith, nat_tests) in
-    ap (λ n. cond (nat_lt n (length words)) (Some n) None) (first_place words k w d e) ∙ ap (λ b. cond b (Some k) None) lt
+    ap (λ n. cond (nat_lt n (length words)) (Some n) None) (first_place words k w d e)
+    ∙ ap (λ b. cond b (Some k) None) lt
 
 -- and at its place a word stands
-pub word_there : (words : List (List ℕ)) (k : ℕ) (w : List ℕ) → place_in words w ≡ Some k → slice_get words k ≡ Some w
+pub word_there : (words : List (List ℕ)) (k : ℕ) (w : List ℕ) → place_in words w ≡ Some k
+    → slice_get words k ≡ Some w
 word_there words k w e =
     let found = position-Some (λ o. bytes_eq o w) words k [] e in
     slice_get-get_or words k [] found.0 ∙ ap Some (same_word (get_or words k []) w found.1)
 
-pub word_of_name : (names : List Name) (place : ℕ) (name : Name) → slice_get names place ≡ Some name → slice_get (name_words names) place ≡ Some name.word
-word_of_name names place name e = slice_get-map (λ n. n.word) names place ∙ ap (option_map (λ n. n.word)) e
+pub word_of_name : (names : List Name) (place : ℕ) (name : Name) → slice_get names place
+    ≡ Some name → slice_get (name_words names) place ≡ Some name.word
+word_of_name names place name e = slice_get-map (λ n. n.word) names place
+    ∙ ap (option_map (λ n. n.word)) e
 
 -- ---- atoms one after the other
 
 module _ {A X Y : Type 0} (f : X → Option Y) (g : A → List X) where
-  pub gather_more : (items : List A) (i n : ℕ) (a : A) (now old before : List Y) → i < length items → a ≡ get_or items i a → n ≡ i + 1 → now ≡ old ++ filter_map f (g a)
-      → old ≡ before ++ filter_map f (flat_map g (take i items)) → now ≡ before ++ filter_map f (flat_map g (take n items))
+  pub gather_more : (items : List A) (i n : ℕ) (a : A) (now old before : List Y) → i < length items
+      → a ≡ get_or items i a → n ≡ i + 1 → now ≡ old ++ filter_map f (g a)
+      → old ≡ before ++ filter_map f (flat_map g (take i items))
+      → now ≡ before ++ filter_map f (flat_map g (take n items))
   gather_more items i n a now old before inside at more put held =
       put ∙ ap (λ l. l ++ filter_map f (g a)) held ∙ append_assoc before _ _
       ∙ ap (λ l. before ++ l)
@@ -106,14 +129,18 @@ heads (Terminated fv bodies) = one_head _ refl
 heads (Happens atom bodies) = one_head _ refl
 heads (HoldsFor fv e) = one_head _ refl
 
-places_of_mentions : (names : List Name) (ms : List Mention) → places_of names (map (λ m. m.atom.name) ms) ≡ mention_places names ms
+places_of_mentions : (names : List Name) (ms : List Mention)
+    → places_of names (map (λ m. m.atom.name) ms) ≡ mention_places names ms
 places_of_mentions names [] = refl
-places_of_mentions names (m ∷ ms) = ap (cons_option (place_in (name_words names) m.atom.name)) (places_of_mentions names ms)
+places_of_mentions names (m ∷ ms) = ap (cons_option (place_in (name_words names) m.atom.name))
+    (places_of_mentions names ms)
 
-pub row_is : (rows : List (List ℕ)) (place : ℕ) (row : List ℕ) → slice_get rows place ≡ Some row → row_at rows place ≡ row
+pub row_is : (rows : List (List ℕ)) (place : ℕ) (row : List ℕ) → slice_get rows place ≡ Some row
+    → row_at rows place ≡ row
 row_is rows place row e = get_or_from_slice_get rows place row [] e
 
-module _ (names : List Name) (distinct : is_distinct (name_words names) ≡ true) (rows : List (List ℕ)) (place : ℕ) (name : Name) (at : slice_get names place ≡ Some name)
+module _ (names : List Name) (distinct : is_distinct (name_words names) ≡ true)
+    (rows : List (List ℕ)) (place : ℕ) (name : Name) (at : slice_get names place ≡ Some name)
     (row : List ℕ) (held : slice_get rows place ≡ Some row) (form : PlainForm) where
   abbrev added : Bool → List ℕ
   added b = places_of names (if b then body_of form else [])
@@ -122,60 +149,81 @@ module _ (names : List Name) (distinct : is_distinct (name_words names) ≡ true
   keeps b e = ap Some (sym (append-nil row) ∙ ap (λ c. row ++ added c) (sym e))
 
   takes : (b : Bool) → b ≡ true → Some (row ++ body_places names form) ≡ Some (row ++ added b)
-  takes b e = ap Some (ap (λ l. row ++ l) (sym (places_of_mentions names (flat_map body_mentions (conditions_of form) ++ leaves_of form))) ∙ ap (λ c. row ++ added c) (sym e))
+  takes b e = ap Some (ap (λ l. row ++ l)
+      (sym (places_of_mentions names (flat_map body_mentions (conditions_of form) ++ leaves_of
+      form))) ∙ ap (λ c. row ++ added c) (sym e))
 
   here : place_in (name_words names) name.word ≡ Some place
   here = place_here (name_words names) place name.word distinct (word_of_name names place name at)
 
   -- of a head with this place or none
-  by_place : (w : List ℕ) (o : Option ℕ) → place_in (name_words names) w ≡ o → (b : Bool) → bytes_eq w name.word ≡ b
-      → slice_get (add_at rows (cons_option o []) (body_places names form)) place ≡ Some (row ++ added b)
+  by_place : (w : List ℕ) (o : Option ℕ) → place_in (name_words names) w ≡ o → (b : Bool)
+      → bytes_eq w name.word ≡ b
+      → slice_get (add_at rows (cons_option o []) (body_places names form)) place
+      ≡ Some (row ++ added b)
   by_place w None e true f =
-      absurd (let no : place_in (name_words names) w ≡ Some place = ap (place_in (name_words names)) (same_word w name.word f) ∙ here in cc)
+      absurd (let no : place_in (name_words names) w ≡ Some place =
+      ap (place_in (name_words names)) (same_word w name.word f) ∙ here in cc)
   by_place w None e false f = held ∙ keeps false refl
   by_place w (Some p) e true f =
-      let found : Some p ≡ Some place = sym e ∙ ap (place_in (name_words names)) (same_word w name.word f) ∙ here in
+      let found : Some p ≡ Some place = sym e ∙ ap (place_in (name_words names))
+      (same_word w name.word f) ∙ here in
       let same : p ≡ place = cc in
       let old : row_at rows p ≡ row = ap (row_at rows) same ∙ row_is rows place row held in
       ap (λ q. slice_get (set rows q (row_at rows p ++ body_places names form)) place) same
       ∙ set_same rows place row (row_at rows p ++ body_places names form) held
       ∙ ap (λ l. Some (l ++ body_places names form)) old
       ∙ takes true refl
-  by_place w (Some p) e false f = elim (set_cases rows p (row_at rows p ++ body_places names form) place) [
-    | inl q ↦ q ∙ held ∙ keeps false refl
-    | inr q ↦ absurd (let there : Some name.word ≡ Some w = sym (word_of_name names place name at) ∙ ap (slice_get (name_words names)) q.0 ∙ word_there (name_words names) p w e in
-        let same : w ≡ name.word = cc in
-        true≢false (sym (equal_word w name.word same) ∙ f))
-  ]
+  by_place w (Some p) e false f = elim (set_cases rows p (row_at rows p ++ body_places names form)
+      place) [
+        | inl q ↦ q ∙ held ∙ keeps false refl
+        | inr q ↦ absurd (let there : Some name.word ≡ Some w =
+            sym (word_of_name names place name at)
+            ∙ ap (slice_get (name_words names)) q.0 ∙ word_there (name_words names) p w e in
+            let same : w ≡ name.word = cc in
+            true≢false (sym (equal_word w name.word same) ∙ f))
+      ]
 
-  by_heads : IsOneHead form → slice_get (with_rule names rows form) place ≡ Some (row ++ added (defines name.word form))
+  by_heads : IsOneHead form → slice_get (with_rule names rows form) place
+      ≡ Some (row ++ added (defines name.word form))
   by_heads (no_head e) =
-      ap (λ hs. slice_get (add_at rows (mention_places names hs) (body_places names form)) place) e ∙ held
+      ap (λ hs. slice_get (add_at rows (mention_places names hs) (body_places names form)) place) e
+      ∙ held
       ∙ keeps (defines name.word form) (ap (list_any (λ m. bytes_eq m.atom.name name.word)) e)
   by_heads (one_head m e) =
-      let test : defines name.word form ≡ bytes_eq m.atom.name name.word = ap (list_any (λ k. bytes_eq k.atom.name name.word)) e ∙ or_false (bytes_eq m.atom.name name.word) in
+      let test : defines name.word form ≡ bytes_eq m.atom.name name.word =
+      ap (list_any (λ k. bytes_eq k.atom.name name.word)) e
+      ∙ or_false (bytes_eq m.atom.name name.word) in
       ap (λ hs. slice_get (add_at rows (mention_places names hs) (body_places names form)) place) e
-      ∙ by_place m.atom.name (place_in (name_words names) m.atom.name) refl (bytes_eq m.atom.name name.word) refl
+      ∙ by_place m.atom.name (place_in (name_words names) m.atom.name) refl
+      (bytes_eq m.atom.name name.word) refl
       ∙ ap (λ b. Some (row ++ added b)) (sym test)
     where
       or_false : (b : Bool) → (b || false) ≡ b
       or_false true = refl
       or_false false = refl
 
-  pub row_with_rule : slice_get (with_rule names rows form) place ≡ Some (row ++ added (defines name.word form))
+  pub row_with_rule : slice_get (with_rule names rows form) place
+      ≡ Some (row ++ added (defines name.word form))
   row_with_rule = by_heads (heads form)
 
 add_length : (rows : List (List ℕ)) (hs more : List ℕ) → length (add_at rows hs more) ≡ length rows
 add_length rows [] more = refl
 add_length rows (h ∷ hs) more = length-set rows h (row_at rows h ++ more)
 
-pub one_more_rule : (names : List Name) (rows now : List (List ℕ)) (rs all : List PlainStatement) (s : PlainStatement) → is_distinct (name_words names) ≡ true → AreRows rs names rows
+pub one_more_rule : (names : List Name) (rows now : List (List ℕ)) (rs all : List PlainStatement)
+    (s : PlainStatement) → is_distinct (name_words names) ≡ true → AreRows rs names rows
     → now ≡ with_rule names rows s.form → all ≡ rs ++ s ∷ [] → AreRows all names now
 one_more_rule names rows now rs all s distinct are with more =
-    subst (λ l. AreRows l names now) (sym more) (subst (AreRows (rs ++ s ∷ []) names) (sym with) (record {
-      len = add_length rows (mention_places names (head_of s.form)) (body_places names s.form) ∙ are.len;
+    subst (λ l. AreRows l names now) (sym more) (subst (AreRows (rs ++ s ∷ []) names) (sym with)
+    (record {
+      len = add_length rows (mention_places names (head_of s.form)) (body_places names s.form)
+          ∙ are.len;
       each = λ place name at.
-          row_with_rule names distinct rows place name at (places_of names (bodies_of rs name.word)) (are.each place name at) s.form
-          ∙ ap Some (sym (filter_map-append (place_in (name_words names)) (bodies_of rs name.word) (if defines name.word s.form then body_of s.form else []))
-          ∙ ap (places_of names) (flat_map_more (λ r. if defines name.word r.form then body_of r.form else []) [] rs s));
+          row_with_rule names distinct rows place name at
+          (places_of names (bodies_of rs name.word)) (are.each place name at) s.form
+          ∙ ap Some (sym (filter_map-append (place_in (name_words names)) (bodies_of rs name.word)
+          (if defines name.word s.form then body_of s.form else []))
+          ∙ ap (places_of names) (flat_map_more (λ r. if defines name.word r.form
+          then body_of r.form else []) [] rs s));
     }))

@@ -1,5 +1,6 @@
 -- The layers of names.
-use Rattle.std.specs.Prelude.{◌≡◌, ℕ, suc, nat_le, List, [], ◌∷◌, length, map, slice_get, slice_index_or, Option, Some, None, if◌then◌else◌}
+use Rattle.std.specs.Prelude.{◌≡◌, ℕ, suc, nat_le, List, [], ◌∷◌, length, map, slice_get}
+use Rattle.std.specs.Prelude.{slice_index_or, Option, Some, None, if◌then◌else◌}
 use Rattle.ground_types.specs.Sound.{is_input}
 use Rattle.ground_types.specs.declared.program.Name.{Name}
 use Rattle.rule_read.specs.Forms.{PlainStatement}
@@ -20,12 +21,16 @@ abbrev pub greatest : List ℕ → ℕ
 greatest [] = 0
 greatest (n ∷ ns) = if nat_le n (greatest ns) then greatest ns else n
 
--- An input event has layer 0; another name has one more than the greatest layer of a name in its bodies.
+-- An input event has layer 0; another name has one more than the greatest layer of a name in its
+-- bodies.
 abbrev pub layer_by : List PlainStatement → List Name → List ℕ → Name → ℕ
 layer_by rules names of_name name =
-    if is_input name.kind then 0 else suc (greatest (map (layer_of names of_name) (bodies_of rules name.word)))
+    if is_input name.kind then 0 else suc
+    (greatest (map (layer_of names of_name) (bodies_of rules name.word)))
 
 -- each name has its layer
-pub record IsLayering (rules : List PlainStatement) (names : List Name) (of_name : List ℕ) : Type 0 where
-  pub len : length of_name ≡ length names
-  pub each : (place : ℕ) (name : Name) → slice_get names place ≡ Some name → slice_get of_name place ≡ Some (layer_by rules names of_name name)
+pub record IsLayering (rules : List PlainStatement) (names : List Name) (of_name : List ℕ) : Type 0
+  where
+    pub len : length of_name ≡ length names
+    pub each : (place : ℕ) (name : Name) → slice_get names place ≡ Some name
+        → slice_get of_name place ≡ Some (layer_by rules names of_name name)

@@ -7,7 +7,8 @@ rank_at ranks place = slice_index_or ranks place 0
 
 -- the places in a row have ranks under a bound
 abbrev pub AreUnder : List ℕ → List ℕ → ℕ → Type 0
-AreUnder ranks row bound = (i place : ℕ) → slice_get row i ≡ Some place → rank_at ranks place < bound
+AreUnder ranks row bound = (i place : ℕ) → slice_get row i ≡ Some place
+    → rank_at ranks place < bound
 
 -- no place has a higher rank than one that names it
 abbrev pub NeverRise : List (List ℕ) → List ℕ → Type 0

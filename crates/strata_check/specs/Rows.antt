@@ -1,5 +1,6 @@
 -- The same by places: for each name the places of the names in its bodies.
-use Rattle.std.specs.Prelude.{◌≡◌, ◌<◌, ℕ, List, [], ◌∷◌, ◌++◌, length, filter_map, flat_map, slice_get, slice_index_or, slice_set, option_to_list, Option, Some}
+use Rattle.std.specs.Prelude.{◌≡◌, ◌<◌, ℕ, List, [], ◌∷◌, ◌++◌, length, filter_map, flat_map}
+use Rattle.std.specs.Prelude.{slice_get, slice_index_or, slice_set, option_to_list, Option, Some}
 use Rattle.ground_types.specs.declared.program.Name.{Name}
 use Rattle.rule_read.specs.declared.form.Atom.{Atom}
 use Rattle.rule_read.specs.Forms.{PlainForm, PlainStatement}
@@ -46,9 +47,11 @@ abbrev pub places_of : List Name → List (List ℕ) → List ℕ
 places_of names words = filter_map (place_in (name_words names)) words
 
 -- each name has in its row the places of the names in its bodies
-pub record AreRows (rules : List PlainStatement) (names : List Name) (rows : List (List ℕ)) : Type 0 where
+pub record AreRows (rules : List PlainStatement) (names : List Name) (rows : List (List ℕ)) : Type
+    0 where
   pub len : length rows ≡ length names
-  pub each : (place : ℕ) (name : Name) → slice_get names place ≡ Some name → slice_get rows place ≡ Some (places_of names (bodies_of rules name.word))
+  pub each : (place : ℕ) (name : Name) → slice_get names place ≡ Some name → slice_get rows place
+      ≡ Some (places_of names (bodies_of rules name.word))
 
 -- ---- one rule after the other
 
@@ -64,7 +67,8 @@ abbrev pub mention_places : List Name → List Mention → List ℕ
 mention_places names ms = filter_map (mention_place names) ms
 
 abbrev pub body_places : List Name → PlainForm → List ℕ
-body_places names form = mention_places names (flat_map body_mentions (conditions_of form) ++ leaves_of form)
+body_places names form = mention_places names (flat_map body_mentions (conditions_of form)
+    ++ leaves_of form)
 
 abbrev pub add_at : List (List ℕ) → List ℕ → List ℕ → List (List ℕ)
 add_at rows [] more = rows
@@ -72,4 +76,5 @@ add_at rows (head ∷ heads) more = slice_set rows head (row_at rows head ++ mor
 
 -- the rows with those names that a rule adds to the row of its head
 abbrev pub with_rule : List Name → List (List ℕ) → PlainForm → List (List ℕ)
-with_rule names rows form = add_at rows (mention_places names (head_of form)) (body_places names form)
+with_rule names rows form = add_at rows (mention_places names (head_of form))
+    (body_places names form)

@@ -1,5 +1,6 @@
 -- A walk from name to name that gives each its layer once all names in its row have theirs.
-use Rattle.std.specs.Prelude.{◌≡◌, ◌≢◌, ◌⊎◌, ◌+◌, ◌-◌, ◌<◌, ◌≤◌, ℕ, suc, List, [], ◌∷◌, length, map, take, slice_get, Option, Some, None, if◌then◌else◌}
+use Rattle.std.specs.Prelude.{◌≡◌, ◌≢◌, ◌⊎◌, ◌+◌, ◌-◌, ◌<◌, ◌≤◌, ℕ, suc, List, [], ◌∷◌, length, map}
+use Rattle.std.specs.Prelude.{take, slice_get, Option, Some, None, if◌then◌else◌}
 use Rattle.ground_types.specs.Sound.{is_input}
 use Rattle.ground_types.specs.declared.program.Name.{Name}
 use Rattle.strata_check.specs.declared.walk.Mark.{Mark}
@@ -74,25 +75,32 @@ IsNamedBy rows (before ∷ others) place = NamesIt rows before place
 abbrev pub IsTrail : List (List ℕ) → List Mark → List ℕ → Type 0
 IsTrail rows marks [] = Unit {0}
 IsTrail rows marks (place ∷ places) =
-    IsOpenMark (slice_get marks place) × IsApart place places × IsNamedBy rows places place × IsTrail rows marks places
+    IsOpenMark (slice_get marks place) × IsApart place places × IsNamedBy rows places place
+    × IsTrail rows marks places
 
 -- a place that is done has the layer over those in its row, which are done
-pub record IsDoneAt (names : List Name) (rows : List (List ℕ)) (marks : List Mark) (place layer : ℕ) : Type 0 where
+pub record IsDoneAt (names : List Name) (rows : List (List ℕ)) (marks : List Mark)
+    (place layer : ℕ) : Type 0 where
   pub all : AreDone marks (row_at rows place)
-  pub is : layer ≡ layer_over (slice_get names place) (greatest (layers_in marks (row_at rows place)))
+  pub is : layer ≡ layer_over (slice_get names place)
+      (greatest (layers_in marks (row_at rows place)))
   pub low : layer ≤ finished marks
 
 -- of an open place some of the row are done, and the greatest layer of these is known
-pub record IsOpenAt (rows : List (List ℕ)) (marks : List Mark) (trail : List ℕ) (place next top : ℕ) : Type 0 where
+pub record IsOpenAt (rows : List (List ℕ)) (marks : List Mark) (trail : List ℕ)
+    (place next top : ℕ) : Type 0 where
   pub some : AreDone marks (take next (row_at rows place))
   pub is : top ≡ greatest (layers_in marks (take next (row_at rows place)))
   pub stands : Stands place trail
 
-pub record IsWalking (names : List Name) (rows : List (List ℕ)) (marks : List Mark) (trail : List ℕ) : Type 0 where
+pub record IsWalking (names : List Name) (rows : List (List ℕ)) (marks : List Mark)
+    (trail : List ℕ) : Type 0 where
   pub few : length marks ≡ length rows
   pub named : length names ≡ length rows
-  pub done : (place layer : ℕ) → slice_get marks place ≡ Some (mark.Done layer) → IsDoneAt names rows marks place layer
-  pub opened : (place next top : ℕ) → slice_get marks place ≡ Some (mark.Open next top) → IsOpenAt rows marks trail place next top
+  pub done : (place layer : ℕ) → slice_get marks place ≡ Some (mark.Done layer)
+      → IsDoneAt names rows marks place layer
+  pub opened : (place next top : ℕ) → slice_get marks place ≡ Some (mark.Open next top)
+      → IsOpenAt rows marks trail place next top
   pub trail_is : IsTrail rows marks trail
 
 -- every place has its layer
@@ -105,13 +113,15 @@ IsNewMark (Some mark.New) = Unit {0}
 IsNewMark m = ⊥
 
 -- The walk went on: fewer steps are left, and what is new was new before.
-pub record HasWalked (names : List Name) (rows : List (List ℕ)) (before marks : List Mark) (trail : List ℕ) : Type 0 where
+pub record HasWalked (names : List Name) (rows : List (List ℕ)) (before marks : List Mark)
+    (trail : List ℕ) : Type 0 where
   pub walking : IsWalking names rows marks trail
   pub fewer : steps_left rows marks < steps_left rows before
   pub later : (place : ℕ) → IsNewMark (slice_get marks place) → IsNewMark (slice_get before place)
 
 -- The walk from a place is over: the place is not new.
-pub record HasVisited (names : List Name) (rows : List (List ℕ)) (before marks : List Mark) (start : ℕ) : Type 0 where
+pub record HasVisited (names : List Name) (rows : List (List ℕ)) (before marks : List Mark)
+    (start : ℕ) : Type 0 where
   pub walking : IsWalking names rows marks []
   pub later : (place : ℕ) → IsNewMark (slice_get marks place) → IsNewMark (slice_get before place)
   pub visited : IsNewMark (slice_get marks start) → ⊥

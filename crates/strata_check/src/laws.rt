@@ -6,5 +6,6 @@ ghost use Rattle.strata_check.specs.Layers.{IsLayering};
 
 /// The layers of names are determined: two lists that give each name its layer are equal.
 pub fn one_layering()
-    ensures { (rules : List PlainStatement) (names : List Name) (one two : List ℕ) → IsLayering rules names one → IsLayering rules names two → one ≡ two }
+    ensures { (rules : List PlainStatement) (names : List Name) (one two : List ℕ)
+        → IsLayering rules names one → IsLayering rules names two → one ≡ two }
 {}

@@ -29,8 +29,8 @@ pub struct LayerList {
 /// Why there are no layers.
 #[derive(Clone, Copy, Debug, PartialEq, Eq)]
 pub enum StrataRefused {
-    /// A name reaches itself along "occurs in a body of": the place of the first declared such name, from 0, and the
-    /// line of its declaration.
+    /// A name reaches itself along "occurs in a body of": the place of the first declared such
+    /// name, from 0, and the line of its declaration.
     Cyclic { name: u32, line: u32 },
     /// Memory ran out. No clause ties this answer to a refused growth.
     OutOfMemory,
@@ -50,7 +50,8 @@ impl From<OutOfMemory> for StrataRefused {
 // The rows of the names of a description.
 fn rows_of_names(alloc: Global, checked: &Checked) -> Result<Vec<Row>, OutOfMemory>
     requires { IsSound checked.now }
-    ensures { IfOk result (λ rows. AreRows (map plain checked.now.rules) checked.now.names rows.items) }
+    ensures { IfOk result (λ rows. AreRows (map plain checked.now.rules) checked.now.names
+        rows.items) }
 {
     let domains = checked.domains.as_slice();
     let names = checked.names.as_slice();
@@ -78,8 +79,8 @@ fn layers_of(alloc: Global, marks: &[Mark]) -> Result<List<u32>, OutOfMemory>
     Ok(List::of(list))
 }
 
-// The first place that leads to itself, by a search from each up to it. It takes that time for each, and makes the answer
-// of `first_circle` right whatever the ranks are.
+// The first place that leads to itself, by a search from each up to it. It takes that time for
+// each, and makes the answer of `first_circle` right whatever the ranks are.
 fn first_circle_by_search(alloc: Global, rows: &[Row]) -> Result<usize, OutOfMemory>
     requires inside { AreInside rows.now }
     requires circle { HasCircle rows.now }
@@ -93,7 +94,8 @@ fn first_circle_by_search(alloc: Global, rows: &[Row]) -> Result<usize, OutOfMem
     unreachable!()
 }
 
-// The first place that leads to itself: the first that is tied by ranks, once a search from it has shown that it does.
+// The first place that leads to itself: the first that is tied by ranks, once a search from it has
+// shown that it does.
 fn first_circle(alloc: Global, rows: &[Row]) -> Result<usize, OutOfMemory>
     requires inside { AreInside rows.now }
     requires circle { HasCircle rows.now }
@@ -108,15 +110,19 @@ fn first_circle(alloc: Global, rows: &[Row]) -> Result<usize, OutOfMemory>
     first_circle_by_search(alloc, rows)
 }
 
-/// The layers of the names: 0 for an input event, and for another name one more than the greatest layer of a name in
-/// its bodies. Cyclic comes exactly where some declared name reaches itself along "occurs in a body of". The time is
-/// linear in the number of names and in that of the names in bodies, for layers and for a refusal. (A slow search for
-/// the name that is refused stands behind a check that passes where names are ranked by the cycles that they are on.)
+/// The layers of the names: 0 for an input event, and for another name one more than the greatest
+/// layer of a name in its bodies. Cyclic comes exactly where some declared name reaches itself
+/// along "occurs in a body of". The time is linear in the number of names and in that of the names
+/// in bodies, for layers and for a refusal. (A slow search for the name that is refused stands
+/// behind a check that passes where names are ranked by the cycles that they are on.)
 pub fn layers(alloc: Global, checked: &Checked) -> Result<LayerList, StrataRefused>
     requires { IsSound checked.now }
-    ensures layers { IfOk result (λ list. IsLayering (map plain checked.now.rules) checked.now.names list.of_name) }
-    ensures none { IfOk result (λ list. NoneBefore (map plain checked.now.rules) checked.now.names (length checked.now.names)) }
-    ensures cyclic { (place line : ℕ) → result ≡ Err (Cyclic place line) → IsFirstCycle (map plain checked.now.rules) checked.now.names place line }
+    ensures layers { IfOk result (λ list. IsLayering (map plain checked.now.rules)
+        checked.now.names list.of_name) }
+    ensures none { IfOk result (λ list. NoneBefore (map plain checked.now.rules) checked.now.names
+        (length checked.now.names)) }
+    ensures cyclic { (place line : ℕ) → result ≡ Err (Cyclic place line)
+        → IsFirstCycle (map plain checked.now.rules) checked.now.names place line }
 {
     let names = checked.names.as_slice();
     let list = rows_of_names(alloc, checked)?;

@@ -106,7 +106,8 @@ impl<'a> Search<'a> {
         self.rank = self.rank.saturating_add(1);
     }
 
-    // Goes back from a place whose row was looked at. It is the first of its component where it leads to none before.
+    // Goes back from a place whose row was looked at. It is the first of its component where it
+    // leads to none before.
     fn leave(&mut self, place: usize) {
         self.trail.pop();
         let Some(point) = self.points.get(place).copied() else {
@@ -162,7 +163,8 @@ impl<'a> Search<'a> {
     }
 }
 
-// As many steps as a search takes at most: one for each place in a row, one to leave each row, and one to find no more.
+// As many steps as a search takes at most: one for each place in a row, one to leave each row, and
+// one to find no more.
 fn most_steps(rows: &[Row]) -> usize {
     let mut steps = 1usize;
     for row in rows {
@@ -171,9 +173,10 @@ fn most_steps(rows: &[Row]) -> usize {
     steps
 }
 
-/// For each place the number of its strongly connected component, in the order in which these are complete: a place
-/// has no higher rank than one that names it, and the same exactly where the two lead to each other. This is not
-/// proved, since no answer rests on it: wrong ranks would only cost time.
+/// For each place the number of its strongly connected component, in the order in which these are
+/// complete: a place has no higher rank than one that names it, and the same exactly where the two
+/// lead to each other. This is not proved, since no answer rests on it: wrong ranks would only cost
+/// time.
 pub(crate) fn ranks(alloc: Global, rows: &[Row]) -> Result<Vec<u32>, OutOfMemory> {
     let mut search = Search::new(alloc, rows)?;
     let limit = most_steps(rows);

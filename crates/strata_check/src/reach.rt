@@ -18,9 +18,11 @@ fn meet(
     other: usize,
 ) -> Result<(), OutOfMemory>
     requires inside { AreInside rows.now }
-    requires searching { IsSearching rows.now start seen.old.items (place ∷ reverse left.old.items) }
+    requires searching { IsSearching rows.now start seen.old.items
+        (place ∷ reverse left.old.items) }
     requires named { NamesIt rows.now place other }
-    ensures { IfOk result (λ _. HasSearched rows.now start seen.old.items left.old.items seen.new.items left.new.items place other) }
+    ensures { IfOk result (λ _. HasSearched rows.now start seen.old.items left.old.items
+        seen.new.items left.new.items place other) }
 {
     if !seen[other] {
         seen[other] = true;
@@ -39,9 +41,12 @@ fn meet_all(
 ) -> Result<(), OutOfMemory>
     requires inside { AreInside rows.now }
     requires within { place < length rows.now }
-    requires searching { IsSearching rows.now start seen.old.items (place ∷ reverse left.old.items) }
-    ensures searching { IfOk result (λ _. IsSearching rows.now start seen.new.items (reverse left.new.items)) }
-    ensures less { IfOk result (λ _. search_left seen.new.items left.new.items ≤ search_left seen.old.items left.old.items) }
+    requires searching { IsSearching rows.now start seen.old.items
+        (place ∷ reverse left.old.items) }
+    ensures searching { IfOk result (λ _. IsSearching rows.now start seen.new.items
+        (reverse left.new.items)) }
+    ensures less { IfOk result (λ _. search_left seen.new.items left.new.items ≤ search_left
+        seen.old.items left.old.items) }
 {
     let row = rows[place].as_slice();
     for other in row {
@@ -69,7 +74,8 @@ pub(crate) fn leads_to_itself(
 ) -> Result<bool, OutOfMemory>
     requires inside { AreInside rows.now }
     requires start { start < length rows.now }
-    ensures { IfOk result (λ found. MatchBool found (Leads rows.now start start) (Leads rows.now start start → ⊥)) }
+    ensures { IfOk result (λ found. MatchBool found (Leads rows.now start start)
+        (Leads rows.now start start → ⊥)) }
 {
     let mut seen = none_seen(alloc, rows.len())?;
     let mut left = Vec::new(alloc);

@@ -5,7 +5,8 @@ use rt_base::OutOfMemory;
 use std::alloc::Global;
 use std::marker::Model;
 
-/// The places of the names in the bodies of a name, as often as they occur. Contracts see the list of them.
+/// The places of the names in the bodies of a name, as often as they occur. Contracts see the list
+/// of them.
 #[derive(Drop)]
 pub(crate) struct Row {
     places: Vec<usize>,

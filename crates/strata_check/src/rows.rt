@@ -1,10 +1,12 @@
 // The rows of all names, one rule after the other.
-ghost use Rattle.std.specs.Prelude.{◌≡◌, ◌++◌, ◌∷◌, [], true, length, map, flat_map, replicate, option_to_list, IfOk};
+ghost use Rattle.std.specs.Prelude.{◌≡◌, ◌++◌, ◌∷◌, [], true, length, map, flat_map, replicate};
+ghost use Rattle.std.specs.Prelude.{option_to_list, IfOk};
 ghost use Rattle.ground_types.specs.Sound.{is_distinct};
 ghost use Rattle.rule_read.specs.Forms.{plain, plain_form, plain_tree};
 ghost use Rattle.domain_decl.specs.Contents.{name_words};
 ghost use Rattle.domain_decl.specs.Mentions.{body_mentions, leaves, head_of, leaves_of};
-ghost use Rattle.strata_check.specs.Rows.{mention_places, body_places, with_rule, atom_places, AreRows};
+ghost use Rattle.strata_check.specs.Rows.{mention_places, body_places, with_rule, atom_places};
+ghost use Rattle.strata_check.specs.Rows.{AreRows};
 
 use crate::row::Row;
 use domain_decl::{Known, atom_of, conditions_of};
@@ -24,7 +26,8 @@ fn add_atom(known: &Known, atom: &Atom, row: &mut Row) -> Result<(), OutOfMemory
 
 // Adds the place of the name in a condition, which `\=` has not.
 fn add_condition(known: &Known, body: &Body, row: &mut Row) -> Result<(), OutOfMemory>
-    ensures { IfOk result (λ _. row.new ≡ row.old ++ mention_places known.now.names.now (body_mentions body.now)) }
+    ensures { IfOk result (λ _. row.new ≡ row.old ++ mention_places known.now.names.now
+        (body_mentions body.now)) }
 {
     match body {
         Body::Happens { event, .. } => add_atom(known, atom_of(event), row)?,
@@ -36,7 +39,8 @@ fn add_condition(known: &Known, body: &Body, row: &mut Row) -> Result<(), OutOfM
 
 // Adds the places of the names in conditions.
 fn add_conditions(known: &Known, bodies: &[Body], row: &mut Row) -> Result<(), OutOfMemory>
-    ensures { IfOk result (λ _. row.new ≡ row.old ++ mention_places known.now.names.now (flat_map body_mentions bodies.now)) }
+    ensures { IfOk result (λ _. row.new ≡ row.old ++ mention_places known.now.names.now
+        (flat_map body_mentions bodies.now)) }
 {
     for body in bodies {
         add_condition(known, body, row)?;
@@ -47,7 +51,8 @@ fn add_conditions(known: &Known, bodies: &[Body], row: &mut Row) -> Result<(), O
 // Adds the places of the names in an expression.
 #[cycle(leaves)]
 fn add_leaves(known: &Known, tree: &Tree, row: &mut Row) -> Result<(), OutOfMemory>
-    ensures { IfOk result (λ _. row.new ≡ row.old ++ mention_places known.now.names.now (leaves (plain_tree tree.now))) }
+    ensures { IfOk result (λ _. row.new ≡ row.old ++ mention_places known.now.names.now
+        (leaves (plain_tree tree.now))) }
 {
     match tree {
         Tree::Leaf(fv) => add_atom(known, &fv.atom, row),
@@ -62,7 +67,8 @@ fn add_leaves(known: &Known, tree: &Tree, row: &mut Row) -> Result<(), OutOfMemo
 
 #[cycle(leaves)]
 fn add_all_leaves(known: &Known, trees: &[Tree], row: &mut Row) -> Result<(), OutOfMemory>
-    ensures { IfOk result (λ _. row.new ≡ row.old ++ mention_places known.now.names.now (flat_map (λ tree. leaves (plain_tree tree)) trees.now)) }
+    ensures { IfOk result (λ _. row.new ≡ row.old ++ mention_places known.now.names.now
+        (flat_map (λ tree. leaves (plain_tree tree)) trees.now)) }
 {
     for tree in trees {
         add_leaves(known, tree, row)?;
@@ -72,7 +78,8 @@ fn add_all_leaves(known: &Known, trees: &[Tree], row: &mut Row) -> Result<(), Ou
 
 // The place of the name that a statement defines.
 fn head_place(known: &Known, form: &Form) -> Option<usize>
-    ensures { option_to_list result ≡ mention_places known.now.names.now (head_of (plain_form form.now)) }
+    ensures { option_to_list result ≡ mention_places known.now.names.now
+        (head_of (plain_form form.now)) }
 {
     match form {
         Form::Initially(fv) => known.place(&fv.atom.name),
@@ -86,7 +93,8 @@ fn head_place(known: &Known, form: &Form) -> Option<usize>
 
 // Adds the places of the names in a statement's expression.
 fn add_leaves_of(known: &Known, form: &Form, row: &mut Row) -> Result<(), OutOfMemory>
-    ensures { IfOk result (λ _. row.new ≡ row.old ++ mention_places known.now.names.now (leaves_of (plain_form form.now))) }
+    ensures { IfOk result (λ _. row.new ≡ row.old ++ mention_places known.now.names.now
+        (leaves_of (plain_form form.now))) }
 {
     match form {
         Form::HoldsFor(_, tree) => add_leaves(known, tree, row),
@@ -96,7 +104,8 @@ fn add_leaves_of(known: &Known, form: &Form, row: &mut Row) -> Result<(), OutOfM
 
 // Adds the places of the names in the body of a statement.
 fn add_body(known: &Known, form: &Form, row: &mut Row) -> Result<(), OutOfMemory>
-    ensures { IfOk result (λ _. row.new ≡ row.old ++ body_places known.now.names.now (plain_form form.now)) }
+    ensures { IfOk result (λ _. row.new ≡ row.old ++ body_places known.now.names.now
+        (plain_form form.now)) }
 {
     add_conditions(known, conditions_of(form), row)?;
     add_leaves_of(known, form, row)
@@ -105,7 +114,8 @@ fn add_body(known: &Known, form: &Form, row: &mut Row) -> Result<(), OutOfMemory
 // Adds to the row of the name that a statement defines the places of the names in its body.
 fn add_rule(known: &Known, form: &Form, rows: &mut Vec<Row>) -> Result<(), OutOfMemory>
     requires { length rows.old.items ≡ length known.now.names.now }
-    ensures { IfOk result (λ _. rows.new.items ≡ with_rule known.now.names.now rows.old.items (plain_form form.now)) }
+    ensures { IfOk result (λ _. rows.new.items ≡ with_rule known.now.names.now rows.old.items
+        (plain_form form.now)) }
 {
     if let Some(head) = head_place(known, form) {
         add_body(known, form, &mut rows[head])?;

@@ -86,7 +86,8 @@ derived e.
 happensAt(e) :- happensAt(up), holdsAt(a=true).
 initiatedAt(a=true) :- happensAt(e).";
 
-// `far` depends on `u` and `v`, which depend on each other, and by way of `between` on `y` and `z`, which do so too.
+// `far` depends on `u` and `v`, which depend on each other, and by way of `between` on `y` and `z`,
+// which do so too.
 const TWO_CYCLES: &str = "window(10). step(5).
 simple far [true]. simple between [true].
 simple y [true].
@@ -110,7 +111,8 @@ fn the_first_name_on_a_cycle_is_refused(rt: HostRuntime) {
     assert_eq!(rt; cyclic(alloc, IN_LAYERS), None);
 }
 
-// So many names, one a line from line 2 on, of which each depends on the next, and the last on itself.
+// So many names, one a line from line 2 on, of which each depends on the next, and the last on
+// itself.
 fn chain(alloc: Global, count: u32) -> Result<String, Fail> {
     let mut text = String::from_str(alloc, "window(10). step(5).\n")?;
     for number in 1..count {

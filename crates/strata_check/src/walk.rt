@@ -1,9 +1,11 @@
 // The walk that gives each name its layer, or finds that some name leads to itself.
-ghost use Rattle.std.specs.Prelude.{◌≡◌, ◌<◌, ◌+◌, ◌^◌, ◌-◌, ◌∷◌, [], Some, None, length, max, replicate, reverse, slice_get, IfOk, IsSome, MatchOption};
+ghost use Rattle.std.specs.Prelude.{◌≡◌, ◌<◌, ◌+◌, ◌^◌, ◌-◌, ◌∷◌, [], Some, None, length, max};
+ghost use Rattle.std.specs.Prelude.{replicate, reverse, slice_get, IfOk, IsSome, MatchOption};
 ghost use Rattle.std.specs.Bool.{MatchBool};
 ghost use Rattle.strata_check.specs.declared.walk.Mark.TheVariants.{New, Open, Done};
 ghost use Rattle.strata_check.specs.Rows.{row_at, AreInside, HasCircle};
-ghost use Rattle.strata_check.specs.Walks.{layer_over, IsNewMark, IsWalking, HasWalked, HasVisited, AllDone};
+ghost use Rattle.strata_check.specs.Walks.{layer_over, IsNewMark, IsWalking, HasWalked, HasVisited};
+ghost use Rattle.strata_check.specs.Walks.{AllDone};
 
 use crate::row::Row;
 use ground_types::{Name, NameKind};
@@ -65,10 +67,12 @@ fn enter(
     at: Standing,
     other: usize,
 ) -> Result<(), OutOfMemory>
-    requires walking { IsWalking graph.now.names.now graph.now.rows.now marks.old.items (at.place ∷ reverse below.old.items) }
+    requires walking { IsWalking graph.now.names.now graph.now.rows.now marks.old.items
+        (at.place ∷ reverse below.old.items) }
     requires next { slice_get (row_at graph.now.rows.now at.place) at.next ≡ Some other }
     requires new { slice_get marks.old.items other ≡ Some New }
-    ensures { IfOk result (λ _. HasWalked graph.now.names.now graph.now.rows.now marks.old.items marks.new.items (reverse below.new.items)) }
+    ensures { IfOk result (λ _. HasWalked graph.now.names.now graph.now.rows.now marks.old.items
+        marks.new.items (reverse below.new.items)) }
 {
     marks[other] = Mark::Open {
         next: 0,
@@ -88,12 +92,14 @@ fn pass(
     other: usize,
     layer: u32,
 ) -> Result<(), OutOfMemory>
-    requires walking { IsWalking graph.now.names.now graph.now.rows.now marks.old.items (at.place ∷ reverse below.old.items) }
+    requires walking { IsWalking graph.now.names.now graph.now.rows.now marks.old.items
+        (at.place ∷ reverse below.old.items) }
     requires standing { slice_get marks.old.items at.place ≡ Some (Open at.next at.greatest) }
     requires next { slice_get (row_at graph.now.rows.now at.place) at.next ≡ Some other }
     requires fits { at.next + 1 < 2 ^ 64 }
     requires done { slice_get marks.old.items other ≡ Some (Done layer) }
-    ensures { IfOk result (λ _. HasWalked graph.now.names.now graph.now.rows.now marks.old.items marks.new.items (reverse below.new.items)) }
+    ensures { IfOk result (λ _. HasWalked graph.now.names.now graph.now.rows.now marks.old.items
+        marks.new.items (reverse below.new.items)) }
 {
     marks[at.place] = Mark::Open {
         next: at.next + 1,
@@ -106,16 +112,19 @@ fn pass(
 // Gives the place its layer.
 fn finish(graph: &Graph, marks: &mut Vec<Mark>, below: &[usize], at: Standing)
     requires few { length graph.now.names.now < 2 ^ 32 }
-    requires walking { IsWalking graph.now.names.now graph.now.rows.now marks.old.items (at.place ∷ reverse below.now) }
+    requires walking { IsWalking graph.now.names.now graph.now.rows.now marks.old.items
+        (at.place ∷ reverse below.now) }
     requires standing { slice_get marks.old.items at.place ≡ Some (Open at.next at.greatest) }
     requires last { slice_get (row_at graph.now.rows.now at.place) at.next ≡ None }
-    ensures { HasWalked graph.now.names.now graph.now.rows.now marks.old.items marks.new.items (reverse below.now) }
+    ensures { HasWalked graph.now.names.now graph.now.rows.now marks.old.items marks.new.items
+        (reverse below.now) }
 {
     let layer = layer_over(&graph.names[at.place], at.greatest);
     marks[at.place] = Mark::Done { layer };
 }
 
-// Looks at the next place of the row where the walk stands, and says whether that leads back to the trail.
+// Looks at the next place of the row where the walk stands, and says whether that leads back to the
+// trail.
 fn look(
     graph: &Graph,
     marks: &mut Vec<Mark>,
@@ -124,11 +133,14 @@ fn look(
     other: usize,
 ) -> Result<bool, OutOfMemory>
     requires inside { AreInside graph.now.rows.now }
-    requires walking { IsWalking graph.now.names.now graph.now.rows.now marks.old.items (at.place ∷ reverse below.old.items) }
+    requires walking { IsWalking graph.now.names.now graph.now.rows.now marks.old.items
+        (at.place ∷ reverse below.old.items) }
     requires standing { slice_get marks.old.items at.place ≡ Some (Open at.next at.greatest) }
     requires next { slice_get (row_at graph.now.rows.now at.place) at.next ≡ Some other }
     requires fits { at.next + 1 < 2 ^ 64 }
-    ensures { IfOk result (λ met. MatchBool met (HasCircle graph.now.rows.now) (HasWalked graph.now.names.now graph.now.rows.now marks.old.items marks.new.items (reverse below.new.items))) }
+    ensures { IfOk result (λ met. MatchBool met (HasCircle graph.now.rows.now)
+        (HasWalked graph.now.names.now graph.now.rows.now marks.old.items marks.new.items
+        (reverse below.new.items))) }
 {
     match marks[other] {
         Mark::New => {
@@ -152,8 +164,11 @@ fn step(
 ) -> Result<bool, OutOfMemory>
     requires few { length graph.now.names.now < 2 ^ 32 }
     requires inside { AreInside graph.now.rows.now }
-    requires walking { IsWalking graph.now.names.now graph.now.rows.now marks.old.items (place ∷ reverse below.old.items) }
-    ensures { IfOk result (λ met. MatchBool met (HasCircle graph.now.rows.now) (HasWalked graph.now.names.now graph.now.rows.now marks.old.items marks.new.items (reverse below.new.items))) }
+    requires walking { IsWalking graph.now.names.now graph.now.rows.now marks.old.items
+        (place ∷ reverse below.old.items) }
+    ensures { IfOk result (λ met. MatchBool met (HasCircle graph.now.rows.now)
+        (HasWalked graph.now.names.now graph.now.rows.now marks.old.items marks.new.items
+        (reverse below.new.items))) }
 {
     match marks[place] {
         Mark::Open { next, greatest } => {
@@ -174,7 +189,8 @@ fn step(
     }
 }
 
-// Walks from a place that is new until all places to which it leads have layers, or until one leads to itself.
+// Walks from a place that is new until all places to which it leads have layers, or until one leads
+// to itself.
 fn walk_from(
     alloc: Global,
     graph: &Graph,
@@ -185,7 +201,9 @@ fn walk_from(
     requires inside { AreInside graph.now.rows.now }
     requires walking { IsWalking graph.now.names.now graph.now.rows.now marks.old.items [] }
     requires new { slice_get marks.old.items start ≡ Some New }
-    ensures { IfOk result (λ met. MatchBool met (HasCircle graph.now.rows.now) (HasVisited graph.now.names.now graph.now.rows.now marks.old.items marks.new.items start)) }
+    ensures { IfOk result (λ met. MatchBool met (HasCircle graph.now.rows.now)
+        (HasVisited graph.now.names.now graph.now.rows.now marks.old.items marks.new.items
+        start)) }
 {
     let mut trail = Vec::new(alloc);
     marks[start] = Mark::Open {
@@ -229,7 +247,9 @@ fn visit(
     requires inside { AreInside graph.now.rows.now }
     requires walking { IsWalking graph.now.names.now graph.now.rows.now marks.old.items [] }
     requires start { start < length graph.now.names.now }
-    ensures { IfOk result (λ met. MatchBool met (HasCircle graph.now.rows.now) (HasVisited graph.now.names.now graph.now.rows.now marks.old.items marks.new.items start)) }
+    ensures { IfOk result (λ met. MatchBool met (HasCircle graph.now.rows.now)
+        (HasVisited graph.now.names.now graph.now.rows.now marks.old.items marks.new.items
+        start)) }
 {
     if is_new(marks[start]) {
         walk_from(alloc, graph, marks, start)
@@ -243,7 +263,8 @@ pub(crate) fn walk(alloc: Global, graph: &Graph) -> Result<Option<Vec<Mark>>, Ou
     requires few { length graph.now.names.now < 2 ^ 32 }
     requires inside { AreInside graph.now.rows.now }
     requires named { length graph.now.names.now ≡ length graph.now.rows.now }
-    ensures { IfOk result (λ marks. MatchOption marks (HasCircle graph.now.rows.now) (λ marks. AllDone graph.now.names.now graph.now.rows.now marks.items)) }
+    ensures { IfOk result (λ marks. MatchOption marks (HasCircle graph.now.rows.now) (λ marks.
+        AllDone graph.now.names.now graph.now.rows.now marks.items)) }
 {
     let mut marks = new_marks(alloc, graph.names.len())?;
     for start in 0..graph.names.len() {

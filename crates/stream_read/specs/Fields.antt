@@ -1,10 +1,12 @@
 -- Numbers in fields of a record.
-use Rattle.std.specs.Prelude.{ℕ, ◌+◌, ◌-◌, ◌*◌, nat_le, Bool, ◌&&◌, if◌then◌else◌, List, [], ◌∷◌, length, Option, Some, None}
+use Rattle.std.specs.Prelude.{ℕ, ◌+◌, ◌-◌, ◌*◌, nat_le, Bool, ◌&&◌, if◌then◌else◌, List, [], ◌∷◌}
+use Rattle.std.specs.Prelude.{length, Option, Some, None}
 
 abbrev pub is_digit : ℕ → Bool
 is_digit c = nat_le 48 c && nat_le c 57
 
--- the number that these digits continue, from that of the digits before them; None where one is no digit
+-- the number that these digits continue, from that of the digits before them; None where one is no
+-- digit
 abbrev pub number_from : ℕ → List ℕ → Option ℕ
 number_from n [] = Some n
 number_from n (c ∷ cs) = if is_digit c then number_from (10 * n + (c - 48)) cs else None

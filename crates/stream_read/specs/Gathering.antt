@@ -1,5 +1,6 @@
 -- A script, record by record.
-use Rattle.std.specs.Prelude.{ℕ, ◌+◌, nat_lt, List, [], ◌∷◌, ◌++◌, Option, Some, None, Result, Ok, Err, if◌then◌else◌}
+use Rattle.std.specs.Prelude.{ℕ, ◌+◌, nat_lt, List, [], ◌∷◌, ◌++◌, Option, Some, None, Result, Ok}
+use Rattle.std.specs.Prelude.{Err, if◌then◌else◌}
 use Rattle.ground_types.specs.declared.program.Program.{Program}
 use Rattle.stream_read.specs.declared.records.Meaning.{Meaning}
 use Rattle.stream_read.specs.declared.records.Meaning.TheVariants.{Means, Ignored, NoForm}
@@ -18,19 +19,31 @@ pub record Gathered : Type 0 where
 
 -- what the record of a number adds, if it has a form
 abbrev pub added : Meaning → ℕ → Gathered → Option Gathered
-added (Means command) number before = Some (record { commands = before.commands ++ (record { place = number; command = command } ∷ []); ignored = before.ignored })
-added Ignored number before = Some (record { commands = before.commands; ignored = before.ignored + 1 })
+added (Means command) number before = Some
+    (record {
+      commands = before.commands ++ (record { place = number; command = command } ∷ []);
+      ignored = before.ignored;
+    })
+added Ignored number before = Some (record {
+  commands = before.commands;
+  ignored =
+      before.ignored + 1;
+})
 added NoForm number before = None
 
 -- what comes of a record of a number and those behind it
-abbrev pub answer_of : ℕ → Option Gathered → (Gathered → Result Script StreamRefused) → Result Script StreamRefused
+abbrev pub answer_of : ℕ → Option Gathered → (Gathered → Result Script StreamRefused)
+    → Result Script StreamRefused
 answer_of number None behind = Err (refused.BadRecord number)
 answer_of number (Some gathered) behind = behind gathered
 
 -- what comes of records that follow so many others, of which this was gathered
-abbrev pub script_from : Program → Shape → ℕ → Gathered → List (List (List ℕ)) → Result Script StreamRefused
-script_from program shape count before [] = Ok (record { commands = before.commands; ignored = before.ignored })
+abbrev pub script_from : Program → Shape → ℕ → Gathered → List (List (List ℕ))
+    → Result Script StreamRefused
+script_from program shape count before [] =
+    Ok (record { commands = before.commands; ignored = before.ignored })
 script_from program shape count before (row ∷ rows) =
     if nat_lt count most
-    then answer_of (count + 1) (added (meaning_of program shape row) (count + 1) before) (λ next. script_from program shape (count + 1) next rows)
+    then answer_of (count + 1) (added (meaning_of program shape row) (count + 1) before)
+    (λ next. script_from program shape (count + 1) next rows)
     else Err refused.TooMany

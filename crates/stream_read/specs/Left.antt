@@ -1,7 +1,9 @@
 -- The records that a reader of a text has left.
-use Rattle.std.specs.Prelude.{◌≡◌, ℕ, ◌+◌, Bool, true, false, List, [], ◌∷◌, length, Option, Some, None, IsSome}
+use Rattle.std.specs.Prelude.{◌≡◌, ℕ, ◌+◌, Bool, true, false, List, [], ◌∷◌, length, Option, Some}
+use Rattle.std.specs.Prelude.{None, IsSome}
 use Rattle.std.specs.Borrow.{Bor}
-use Rattle.csv.specs.Reading.{records_from, default_config, source_of, reader_trim, reader_config, reader_state, is_flexible, Ready}
+use Rattle.csv.specs.Reading.{records_from, default_config, source_of, reader_trim, reader_config}
+use Rattle.csv.specs.Reading.{reader_state, is_flexible, Ready}
 use Rattle.csv.specs.declared.parser.State.{State}
 use Rattle.csv.specs.declared.reader.Reader.{Reader}
 use Rattle.csv.specs.declared.reader.Trim.TheVariants as trim

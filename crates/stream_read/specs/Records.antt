@@ -1,5 +1,6 @@
 -- What a record says in a script of each shape, from the list of its fields.
-use Rattle.std.specs.Prelude.{ℕ, List, [], ◌∷◌, codes, Option, Some, None, option_and_then, option_map, if◌then◌else◌}
+use Rattle.std.specs.Prelude.{ℕ, List, [], ◌∷◌, codes, Option, Some, None, option_and_then}
+use Rattle.std.specs.Prelude.{option_map, if◌then◌else◌}
 use Rattle.std.specs.Str.{bytes_eq}
 use Rattle.ground_types.specs.declared.entries.Act.{Act}
 use Rattle.ground_types.specs.declared.entries.Act.TheVariants.{Add, Revoke}
@@ -13,7 +14,8 @@ use Rattle.stream_read.specs.declared.script.Shape.TheVariants as shape
 use Rattle.stream_read.specs.declared.records.Meaning.{Meaning}
 use Rattle.stream_read.specs.declared.records.Meaning.TheVariants.{Means, Ignored, NoForm}
 use Rattle.stream_read.specs.declared.verbs.Verb.{Verb}
-use Rattle.stream_read.specs.declared.verbs.Verb.TheVariants.{Adds, Revokes, Seals, Asks, Waits, Follows, Other}
+use Rattle.stream_read.specs.declared.verbs.Verb.TheVariants.{Adds, Revokes, Seals, Asks, Waits}
+use Rattle.stream_read.specs.declared.verbs.Verb.TheVariants.{Follows, Other}
 use Rattle.stream_read.specs.Fields.{number_of, feeder_of}
 
 -- the first field
@@ -38,12 +40,14 @@ fed feeder act at (Some event) = Means (command.Feed feeder act event at)
 
 abbrev pub fed_at : Program → ℕ → Act → List ℕ → List (List ℕ) → Option ℕ → Meaning
 fed_at program feeder act name args None = NoForm
-fed_at program feeder act name args (Some at) = fed feeder act at (event_named (record { program = program; word = name; args = args }))
+fed_at program feeder act name args (Some at) =
+    fed feeder act at (event_named (record { program = program; word = name; args = args }))
 
 -- T,NAME,ARGS: the name is not empty
 abbrev pub feed : Program → Act → ℕ → List (List ℕ) → Meaning
 feed program act feeder (at ∷ [] ∷ args) = NoForm
-feed program act feeder (at ∷ (c ∷ cs) ∷ args) = fed_at program feeder act (c ∷ cs) args (number_of at)
+feed program act feeder (at ∷ (c ∷ cs) ∷ args) = fed_at program feeder act (c ∷ cs) args
+    (number_of at)
 feed program act feeder fields = NoForm
 
 abbrev pub feed_by : Program → Act → List (List ℕ) → Option ℕ → Meaning
@@ -93,7 +97,8 @@ wait fields = None
 
 -- F,N
 abbrev pub after : List (List ℕ) → Option Command
-after (feeder ∷ count ∷ []) = option_and_then (λ f. option_map (command.After f) (number_of count)) (feeder_of feeder)
+after (feeder ∷ count ∷ []) = option_and_then (λ f. option_map (command.After f) (number_of count))
+    (feeder_of feeder)
 after fields = None
 
 -- the records of each shape

@@ -1,5 +1,6 @@
 -- The commands of a script.
-use Rattle.std.specs.Prelude.{◌≡◌, ◌≤◌, ℕ, ◌+◌, nat_lt, Bool, true, false, List, [], ◌∷◌, length, map, take, filter, position, Option, Some, None, Result, Ok, Err}
+use Rattle.std.specs.Prelude.{◌≡◌, ◌≤◌, ℕ, ◌+◌, nat_lt, Bool, true, false, List, [], ◌∷◌, length}
+use Rattle.std.specs.Prelude.{map, take, filter, position, Option, Some, None, Result, Ok, Err}
 use Rattle.csv.specs.Reading.{records, default_config, strip_bom}
 use Rattle.ground_types.specs.declared.program.Program.{Program}
 use Rattle.stream_read.specs.declared.script.Shape.{Shape}
@@ -12,7 +13,8 @@ use Rattle.stream_read.specs.declared.records.Meaning.{Meaning}
 use Rattle.stream_read.specs.declared.records.Meaning.TheVariants.{Means, Ignored, NoForm}
 use Rattle.stream_read.specs.Records.{meaning_of}
 
--- The records of a text: those that CSV readers read with commas and double quotes, without a header row.
+-- The records of a text: those that CSV readers read with commas and double quotes, without a
+-- header row.
 abbrev pub records_of : List ℕ → List (List (List ℕ))
 records_of text = records default_config (strip_bom text)
 
@@ -33,17 +35,24 @@ is_ignored NoForm = false
 -- the commands, each with the number of its record, from this number on
 abbrev pub placed_from : ℕ → List Meaning → List Placed
 placed_from number [] = []
-placed_from number (Means command ∷ rest) = record { place = number; command = command } ∷ placed_from (number + 1) rest
+placed_from number (Means command ∷ rest) = record { place = number; command = command }
+    ∷ placed_from (number + 1) rest
 placed_from number (Ignored ∷ rest) = placed_from (number + 1) rest
 placed_from number (NoForm ∷ rest) = placed_from (number + 1) rest
 
--- the first record without a form, counted from 1; else that there are too many; else the commands and how many are ignored
+-- the first record without a form, counted from 1; else that there are too many; else the commands
+-- and how many are ignored
 abbrev pub answer_by : Option ℕ → Bool → List Meaning → Result Script StreamRefused
 answer_by (Some place) more meanings = Err (refused.BadRecord (place + 1))
 answer_by None true meanings = Err refused.TooMany
-answer_by None false meanings = Ok (record { commands = placed_from 1 meanings; ignored = length (filter is_ignored meanings) })
+answer_by None false meanings = Ok (record {
+  commands = placed_from 1 meanings;
+  ignored =
+      length (filter is_ignored meanings);
+})
 
--- what records come to, of which at most so many may be: of those past them only that there are some counts
+-- what records come to, of which at most so many may be: of those past them only that there are
+-- some counts
 abbrev pub script_within : ℕ → Program → Shape → List (List (List ℕ)) → Result Script StreamRefused
 script_within bound program shape rows =
     let meanings = map (meaning_of program shape) (take bound rows) in

@@ -1,7 +1,7 @@
-//! Scripts: the records of CSV texts as commands for a program.
-//! Its promise: `commands` gives exactly the commands of the records and the count of the ignored ones, and refuses exactly
-//! where a record has no form or there are too many (want of memory aside). Records are what the crate `csv` says. It
-//! stands on `csv` and `indexmap`, on `ground_rules` and on what that stands on.
+//! Scripts: the records of CSV texts as commands for a program. Its promise: `commands` gives
+//! exactly the commands of the records and the count of the ignored ones, and refuses exactly where
+//! a record has no form or there are too many (want of memory aside). Records are what the crate
+//! `csv` says. It stands on `csv` and `indexmap`, on `ground_rules` and on what that stands on.
 #![tactic(auto)]
 
 mod fields;

@@ -1,5 +1,6 @@
 // What words name in a program, found by tables that are made once.
-ghost use Rattle.std.specs.Prelude.{◌≡◌, true, map, option_copied, option_and_then, slice_get, IfOk, IfSome};
+ghost use Rattle.std.specs.Prelude.{◌≡◌, true, map, option_copied, option_and_then, slice_get};
+ghost use Rattle.std.specs.Prelude.{IfOk, IfSome};
 ghost use Rattle.std.specs.List.{list_all};
 ghost use Rattle.ground_types.specs.Sound.{IsSound, are_constants};
 ghost use Rattle.domain_decl.specs.Contents.{name_words};
@@ -15,7 +16,8 @@ use ground_types::{Domain, EventId, Name, NameKind, Program, UnitId};
 use rt_base::OutOfMemory;
 use std::alloc::Global;
 
-/// A program with tables in which its names and its entities are found. It borrows the program and copies no word.
+/// A program with tables in which its names and its entities are found. It borrows the program and
+/// copies no word.
 #[derive(Drop)]
 pub(crate) struct Names<'a> {
     /// The program that it was made of.
@@ -59,7 +61,8 @@ impl<'a> Names<'a> {
     // The name at a place.
     fn name_at(&self, place: usize) -> Option<&'a Name>
         ensures at { option_copied result ≡ slice_get self.now.program.now.names place }
-        ensures small { IfSome result (λ name. has_small_numbers self.now.program.now.domains name.now ≡ true) }
+        ensures small { IfSome result (λ name. has_small_numbers self.now.program.now.domains
+            name.now ≡ true) }
     {
         self.program.names.as_slice().get(place)
     }
@@ -67,14 +70,16 @@ impl<'a> Names<'a> {
     // The name of this word. One look-up.
     fn name(&self, word: &[u8]) -> Option<&'a Name>
         ensures declared { option_copied result ≡ declaration self.now.program.now.names word.now }
-        ensures small { IfSome result (λ name. has_small_numbers self.now.program.now.domains name.now ≡ true) }
+        ensures small { IfSome result (λ name. has_small_numbers self.now.program.now.domains
+            name.now ≡ true) }
     {
         let place = self.by_word.place(word)?;
         self.name_at(place)
     }
 
-    // The place of arguments with a further one among all of so many, from that of those before it; the greatest number
-    // where it is more, and None where the word is no entity of the domain. One look-up.
+    // The place of arguments with a further one among all of so many, from that of those before it;
+    // the greatest number where it is more, and None where the word is no entity of the domain. One
+    // look-up.
     fn further(&self, place: u64, domain: u32, word: &[u8]) -> Option<u64>
         ensures { result ≡ further self.now.program.now.domains place domain word.now }
     {
@@ -99,19 +104,25 @@ impl<'a> Names<'a> {
         }
     }
 
-    // The number of the ground event or unit of a name with these arguments; None where they are none of its.
+    // The number of the ground event or unit of a name with these arguments; None where they are
+    // none of its.
     fn number(&self, name: &Name, fields: &mut Fields) -> Option<u32>
         requires { has_small_numbers self.now.program.now.domains name.now ≡ true }
-        ensures { result ≡ option_and_then (number_of self.now.program.now.domains name.now) (entities_named self.now.program.now.domains name.now.args fields.old) }
+        ensures { result ≡ option_and_then (number_of self.now.program.now.domains name.now)
+            (entities_named self.now.program.now.domains name.now.args fields.old) }
     {
         let place = self.place(name, fields)?;
         Some(name.first + place as u32)
     }
 
-    /// The ground input event that a name and the fields that are left name; None where they name none. One look-up for
-    /// each word.
+    /// The ground input event that a name and the fields that are left name; None where they name
+    /// none. One look-up for each word.
     pub(crate) fn event(&self, word: &[u8], fields: &mut Fields) -> Option<EventId>
-        ensures { result ≡ event_named (record { program = self.now.program.now; word = word.now; args = fields.old }) }
+        ensures { result ≡ event_named (record {
+          program = self.now.program.now;
+          word = word.now;
+          args = fields.old;
+        }) }
     {
         let name = self.name(word)?;
         match name.kind {
@@ -120,10 +131,14 @@ impl<'a> Names<'a> {
         }
     }
 
-    /// The ground fluent that a name and the fields that are left name; None where they name none. One look-up for each
-    /// word.
+    /// The ground fluent that a name and the fields that are left name; None where they name none.
+    /// One look-up for each word.
     pub(crate) fn unit(&self, word: &[u8], fields: &mut Fields) -> Option<UnitId>
-        ensures { result ≡ unit_named (record { program = self.now.program.now; word = word.now; args = fields.old }) }
+        ensures { result ≡ unit_named (record {
+          program = self.now.program.now;
+          word = word.now;
+          args = fields.old;
+        }) }
     {
         let name = self.name(word)?;
         match name.kind {

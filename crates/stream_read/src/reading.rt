@@ -29,7 +29,11 @@ impl Model for Gathered {
 
     ghost Value = { Parts };
 
-    ghost view = { λ gathered. record { commands = gathered.commands.items; ignored = gathered.ignored } };
+    ghost view = { λ gathered. record {
+      commands = gathered.commands.items;
+      ignored =
+          gathered.ignored;
+    } };
 }
 
 impl Gathered {
@@ -42,10 +46,12 @@ impl Gathered {
         }
     }
 
-    // Adds the record of a number, if it has a form, and says whether it has one. Records are counted from 1.
+    // Adds the record of a number, if it has a form, and says whether it has one. Records are
+    // counted from 1.
     fn add(&mut self, number: u32, meaning: Meaning) -> Result<bool, OutOfMemory>
         requires { self.old.ignored < number }
-        ensures { IfOk result (λ has_form. added meaning number self.old ≡ (if has_form then Some self.new else None)) }
+        ensures { IfOk result (λ has_form. added meaning number self.old
+            ≡ (if has_form then Some self.new else None)) }
     {
         match meaning {
             Meaning::Means(command) => self.commands.push(Placed {
@@ -68,17 +74,21 @@ impl Gathered {
     }
 }
 
-/// The commands of a script for this program, each with the number of its record, and how many records are ignored.
+/// The commands of a script for this program, each with the number of its record, and how many
+/// records are ignored.
 ///
-/// Records are those that CSV readers read with commas and double quotes, without a header row, with any number of fields;
-/// empty lines hold none, fields are not trimmed, and a byte order mark at the start is taken off. BadRecord comes exactly
-/// where one of the first 2,097,152 records has no form of the shape, at the first such record, counted from 1; else
-/// TooMany exactly where there is a further record. An `add` or `revoke` of its form that names no ground input event is
-/// counted and ignored; an `ask,holds` that names no ground fluent-value has no form. The program has to be sound, and the
-/// number of a feeder 1 to 8. The forms and the limit are this project's own.
+/// Records are those that CSV readers read with commas and double quotes, without a header row,
+/// with any number of fields; empty lines hold none, fields are not trimmed, and a byte order mark
+/// at the start is taken off. BadRecord comes exactly where one of the first 2,097,152 records has
+/// no form of the shape, at the first such record, counted from 1; else TooMany exactly where there
+/// is a further record. An `add` or `revoke` of its form that names no ground input event is
+/// counted and ignored; an `ask,holds` that names no ground fluent-value has no form. The program
+/// has to be sound, and the number of a feeder 1 to 8. The forms and the limit are this project's
+/// own.
 ///
-/// Hash tables of the names and the entities are made once, and each word of a record is looked up in them once: as long as
-/// few words share a hash, the time is linear in the length of the text and in the numbers of names and entities.
+/// Hash tables of the names and the entities are made once, and each word of a record is looked up
+/// in them once: as long as few words share a hash, the time is linear in the length of the text
+/// and in the numbers of names and entities.
 pub fn commands(
     alloc: Global,
     text: &[u8],

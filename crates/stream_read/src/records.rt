@@ -4,7 +4,9 @@ ghost use Rattle.csv.specs.Records.{fields_of};
 ghost use Rattle.ground_types.specs.Sound.{IsSound};
 ghost use Rattle.ground_rules.specs.Found.{event_named};
 ghost use Rattle.stream_read.specs.Fields.{only_number};
-ghost use Rattle.stream_read.specs.Records.{fed, feed, feed_of_feeder, seal, ask_holds, ask_count, ask_block, ask, wait, after, or_no_form, meaning_by, meaning_of};
+ghost use Rattle.stream_read.specs.Records.{fed, feed, feed_of_feeder, seal, ask_holds, ask_count};
+ghost use Rattle.stream_read.specs.Records.{ask_block, ask, wait, after, or_no_form, meaning_by};
+ghost use Rattle.stream_read.specs.Records.{meaning_of};
 
 use crate::fields::{Fields, feeder, number};
 use crate::names::Names;
@@ -90,7 +92,11 @@ fn after(fields: &mut Fields) -> Option<Command>
 // An act at a point on what a name and its arguments name.
 fn fed(names: &Names, feeder: u8, act: Act, at: u64, name: &[u8], fields: &mut Fields) -> Meaning
     requires { IsSound names.now.program.now }
-    ensures { result ≡ fed feeder act at (event_named (record { program = names.now.program.now; word = name.now; args = fields.old })) }
+    ensures { result ≡ fed feeder act at (event_named (record {
+      program = names.now.program.now;
+      word = name.now;
+      args = fields.old;
+    })) }
 {
     match names.event(name, fields) {
         Some(event) => Meaning::Means(Command::Feed {

@@ -20,8 +20,8 @@ pub(crate) fn reader_of(alloc: Global, text: &[u8]) -> Reader<&[u8]>
         .from_reader(alloc, text)
 }
 
-// A reader of records of any length over a text in memory fails for want of memory alone. That the slice under it does not
-// fail no clause of std says, so that error is answered alike.
+// A reader of records of any length over a text in memory fails for want of memory alone. That the
+// slice under it does not fail no clause of std says, so that error is answered alike.
 fn out_of_memory(error: &Error) -> OutOfMemory
     requires { stops_reader (error_kind error.now) ≡ true }
 {

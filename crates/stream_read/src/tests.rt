@@ -12,7 +12,8 @@ use std::alloc::Global;
 use std::test::Fail;
 use strata_check::layers;
 
-// Ground events 0 to 3 are moves from r1 to r1, from r1 to r2 and so on, and 4 is a tick; units 0 and 1 are r1 and r2 open.
+// Ground events 0 to 3 are moves from r1 to r1, from r1 to r2 and so on, and 4 is a tick; units 0
+// and 1 are r1 and r2 open.
 const ROOMS: &str = "window(10). step(5).
 domain room [r1, r2].
 input move(room, room).
@@ -214,7 +215,8 @@ fn near_misses_have_no_form(rt: HostRuntime) -> Result<(), Fail> {
 
 #[test]
 fn records_are_those_of_csv(rt: HostRuntime) -> Result<(), Fail> {
-    // A byte order mark, quotes, line ends of each kind, empty lines, and a last record without a line end.
+    // A byte order mark, quotes, line ends of each kind, empty lines, and a last record without a
+    // line end.
     let text =
         b"\xEF\xBB\xBF\"add\",1,5,\"tick\"\r\n\r\n\nadd,1,6,\"ti\"\"ck\"\radd,2,7,t\0ck\n\nadd,2,8,\xFF\nadd,2,9,\"a\nb\"\nseal";
     let wanted = [fed(1, 1, Act::Add, 4, 5), placed(6, Command::Seal)];

@@ -10,7 +10,8 @@ use rt_base::{OutOfMemory, Word};
 use std::alloc::Global;
 use std::marker::Model;
 
-/// Different words, in their order, hashed by their bytes. Contracts see the list of them. It borrows the words.
+/// Different words, in their order, hashed by their bytes. Contracts see the list of them. It
+/// borrows the words.
 #[derive(Drop)]
 pub(crate) struct WordTable<'a> {
     words: IndexSet<&'a [u8]>,
@@ -37,7 +38,8 @@ impl<'a> WordTable<'a> {
     // Puts a word behind the others where it is not there, and says whether it was not.
     fn insert(&mut self, word: &'a [u8]) -> Result<bool, OutOfMemory>
         ensures added { IfOk result (λ added. added ≡ not (has self.old word.now)) }
-        ensures words { IfOk result (λ added. self.new ≡ (if added then self.old ++ (word.now ∷ []) else self.old)) }
+        ensures words { IfOk result (λ added. self.new ≡ (if added then self.old ++ (word.now ∷ [])
+            else self.old)) }
     {
         let (_, added) = self.words.insert_full(word)?;
         Ok(added)

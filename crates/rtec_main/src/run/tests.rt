@@ -28,7 +28,8 @@ fn file(alloc: Global, name: &str, bytes: &[u8]) -> Result<(Word, Vec<u8>), Fail
     Ok((Word::new(alloc, name)?, Vec::from_slice(alloc, bytes)?))
 }
 
-// The status and the bytes written of the words of a line over these files; reads and writes of these numbers fail.
+// The status and the bytes written of the words of a line over these files; reads and writes of
+// these numbers fail.
 fn ran_words(
     rt: &(impl Threads + Sync + AllocGlobal),
     line: &str,
@@ -193,7 +194,8 @@ fn words_of_no_command_are_refused(rt: HostRuntime) -> Result<(), Fail> {
 fn faults_name_their_cause(rt: HostRuntime) -> Result<(), Fail> {
     let alloc = rt.alloc();
 
-    // Is the description there, and the script; the reads that fail, the piece, the writes that fail; what comes of it.
+    // Is the description there, and the script; the reads that fail, the piece, the writes that
+    // fail; what comes of it.
     let rows = [
         (
             false,

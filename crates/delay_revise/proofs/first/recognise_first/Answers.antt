@@ -8,13 +8,15 @@ use Rattle.delay_revise.proofs.Gathering.{on_err}
 use Rattle.delay_revise.proofs.InWindow.{empty_inside}
 use Rattle.delay_revise.proofs.LayerSizes.{are_below, layer_known_at, layers_fit}
 use Rattle.delay_revise.proofs.Stepping.{steps_more}
-use Rattle.delay_revise.proofs.WorkedUnits.{layer_more, layer_refused, layers_done, all_rows, all_evaluations}
+use Rattle.delay_revise.proofs.WorkedUnits.{layer_more, layer_refused, layers_done, all_rows}
+use Rattle.delay_revise.proofs.WorkedUnits.{all_evaluations}
 use Rattle.delay_revise.proofs.first.recognise_first.Goals as goal
 
 pub work_layer-requires-clause-units : goal.work_layer-requires-clause-units
 work_layer-requires-clause-units g c =
     ap (are_below (length c.args.program.now.units)) c.as_slice.ensures
-    ∙ layer_known_at c.args.program.now c.as_slice-layer-items.result.now c.loop-layer.layer-index c.layer-item.result c.requires.sound
+    ∙ layer_known_at c.args.program.now c.as_slice-layer-items.result.now c.loop-layer.layer-index
+    c.layer-item.result c.requires.sound
     c.as_slice-layer-items.ensures c.loop-layer-test.true c.layer-item.is
 
 pub work_layer-requires-clause-few : goal.work_layer-requires-clause-few
@@ -22,20 +24,23 @@ work_layer-requires-clause-few g c =
     omega (
       arith,
       ap (λ (l : List ℕ). length l) c.as_slice.ensures,
-      layers_fit c.args.program.now c.as_slice-layer-items.result.now c.loop-layer.layer-index c.layer-item.result c.requires.sound
+      layers_fit c.args.program.now c.as_slice-layer-items.result.now c.loop-layer.layer-index
+          c.layer-item.result c.requires.sound
           c.as_slice-layer-items.ensures c.loop-layer-test.true c.layer-item.is,
     )
 
 pub work_layer-requires-clause-inside : goal.work_layer-requires-clause-inside
 work_layer-requires-clause-inside g c =
-    c.loop-layer.invariant.works.inside (empty_inside c.args.program.now (left c.args.program.now.plan 0) (right c.args.program.now.plan 0))
+    c.loop-layer.invariant.works.inside (empty_inside c.args.program.now
+    (left c.args.program.now.plan 0) (right c.args.program.now.plan 0))
 
 pub overflow_add-evaluations : goal.overflow_add-evaluations
 overflow_add-evaluations g c =
     omega (
       arith,
       ap (λ (l : List ℕ). length l) c.as_slice.ensures,
-      layers_fit c.args.program.now c.as_slice-layer-items.result.now c.loop-layer.layer-index c.layer-item.result c.requires.sound
+      layers_fit c.args.program.now c.as_slice-layer-items.result.now c.loop-layer.layer-index
+          c.layer-item.result c.requires.sound
           c.as_slice-layer-items.ensures c.loop-layer-test.true c.layer-item.is,
       c.loop-layer.invariant.most,
       c.in_ok-evaluations.ensures.most,
@@ -43,40 +48,55 @@ overflow_add-evaluations g c =
 
 pub loop-layer-preserved : goal.loop-layer-preserved
 loop-layer-preserved g c = record {
-  works = layer_more c.args.program.now c.args.store.now c.as_slice-layer-items.result.now c.loop-layer.layer-index c.as_slice.result.now
-      c.layer-item.result (all_empty c.args.program.now) c.loop-layer.cache.rows c.work_layer.new.cache.rows c.loop-layer.evaluations c.in_ok-evaluations.field-0
-      c.loop-layer-test.true c.layer-item.is c.as_slice.ensures c.loop-layer.invariant.works c.in_ok-evaluations.ensures.works;
+  works = layer_more c.args.program.now c.args.store.now c.as_slice-layer-items.result.now
+      c.loop-layer.layer-index c.as_slice.result.now
+      c.layer-item.result (all_empty c.args.program.now) c.loop-layer.cache.rows
+      c.work_layer.new.cache.rows c.loop-layer.evaluations c.in_ok-evaluations.field-0
+      c.loop-layer-test.true c.layer-item.is c.as_slice.ensures c.loop-layer.invariant.works
+      c.in_ok-evaluations.ensures.works;
   before = c.work_layer.ensures.before ∙ c.loop-layer.invariant.before;
   most = omega (
     arith,
     ap (λ (l : List ℕ). length l) c.as_slice.ensures,
     ap (λ (l : List ℕ). length l) c.layer-item.is,
-    sum_by_more length c.as_slice-layer-items.result.now c.loop-layer.layer-index c.layer-item.result c.loop-layer-test.true,
+    sum_by_more length c.as_slice-layer-items.result.now c.loop-layer.layer-index
+        c.layer-item.result c.loop-layer-test.true,
     c.loop-layer.invariant.most,
     c.in_ok-evaluations.ensures.most,
   );
-  steps = steps_more c.args.steps.now c.loop-layer.steps c.work_layer.new.steps c.loop-layer.evaluations c.in_ok-evaluations.field-0
+  steps = steps_more c.args.steps.now c.loop-layer.steps c.work_layer.new.steps
+      c.loop-layer.evaluations c.in_ok-evaluations.field-0
       c.loop-layer.invariant.steps c.in_ok-evaluations.ensures.steps;
 }
 
 pub returns-clause-rows : goal.returns-clause-rows
 returns-clause-rows g c = λ history stand.
     ap (map published) c.into_rows.ensures
-    ∙ all_rows c.args.program.now c.args.store.now (all_empty c.args.program.now) c.loop-layer.cache.rows c.loop-layer.evaluations c.requires.sound refl
-    (layers_done c.args.program.now c.args.store.now c.as_slice-layer-items.result.now c.loop-layer.layer-index (all_empty c.args.program.now)
-    c.loop-layer.cache.rows c.loop-layer.evaluations c.as_slice-layer-items.ensures (omega (arith, c.loop-layer-test.false)) c.loop-layer.invariant.works)
+    ∙ all_rows c.args.program.now c.args.store.now (all_empty c.args.program.now)
+    c.loop-layer.cache.rows c.loop-layer.evaluations c.requires.sound refl
+    (layers_done c.args.program.now c.args.store.now c.as_slice-layer-items.result.now
+    c.loop-layer.layer-index (all_empty c.args.program.now)
+    c.loop-layer.cache.rows c.loop-layer.evaluations c.as_slice-layer-items.ensures
+    (omega (arith, c.loop-layer-test.false)) c.loop-layer.invariant.works)
     history stand
 
 pub returns-clause-evaluations : goal.returns-clause-evaluations
 returns-clause-evaluations g c = λ history stand.
-    all_evaluations c.args.program.now c.args.store.now (all_empty c.args.program.now) c.loop-layer.cache.rows c.loop-layer.evaluations c.requires.sound refl
-    (layers_done c.args.program.now c.args.store.now c.as_slice-layer-items.result.now c.loop-layer.layer-index (all_empty c.args.program.now)
-    c.loop-layer.cache.rows c.loop-layer.evaluations c.as_slice-layer-items.ensures (omega (arith, c.loop-layer-test.false)) c.loop-layer.invariant.works)
+    all_evaluations c.args.program.now c.args.store.now (all_empty c.args.program.now)
+    c.loop-layer.cache.rows c.loop-layer.evaluations c.requires.sound refl
+    (layers_done c.args.program.now c.args.store.now c.as_slice-layer-items.result.now
+    c.loop-layer.layer-index (all_empty c.args.program.now)
+    c.loop-layer.cache.rows c.loop-layer.evaluations c.as_slice-layer-items.ensures
+    (omega (arith, c.loop-layer-test.false)) c.loop-layer.invariant.works)
     history stand
 
 pub returns-in_err-evaluations-clause-refused : goal.returns-in_err-evaluations-clause-refused
 returns-in_err-evaluations-clause-refused g c =
-    on_err _ (layer_refused c.args.program.now c.args.store.now c.as_slice-layer-items.result.now c.loop-layer.layer-index c.as_slice.result.now
-    c.layer-item.result c.loop-layer.cache.rows c.args.steps.now.count c.loop-layer.steps.count c.work_layer.new.steps.count c.loop-layer.evaluations
-    c.requires.sound c.as_slice-layer-items.ensures c.loop-layer-test.true c.layer-item.is c.as_slice.ensures c.loop-layer.invariant.works
-    (ap (λ (s : Counted). s.count) c.loop-layer.invariant.steps) c.in_err-evaluations.ensures.refused)
+    on_err _ (layer_refused c.args.program.now c.args.store.now c.as_slice-layer-items.result.now
+    c.loop-layer.layer-index c.as_slice.result.now
+    c.layer-item.result c.loop-layer.cache.rows c.args.steps.now.count c.loop-layer.steps.count
+    c.work_layer.new.steps.count c.loop-layer.evaluations
+    c.requires.sound c.as_slice-layer-items.ensures c.loop-layer-test.true c.layer-item.is
+    c.as_slice.ensures c.loop-layer.invariant.works
+    (ap (λ (s : Counted). s.count) c.loop-layer.invariant.steps)
+    c.in_err-evaluations.ensures.refused)

@@ -13,29 +13,40 @@ below_by a b c low is = omega arith
 pub returns-in_err-points-clause-most : goal.returns-in_err-points-clause-most
 returns-in_err-points-clause-most g c =
     let table = known c.args.cache.now.rows c.args.store.now in
-    on_err _ (steps_within (λ rule. length (points (happens table rule.trigger) c.args.w c.args.q)) c.args.rules.now c.loop-rule.rule-index c.rule-item.result
-    c.args.steps.now c.loop-rule.steps c.revise_rule.new.steps.count c.loop-rule-test.true c.rule-item.is c.loop-rule.invariant.steps c.in_err-points.ensures.most)
+    on_err _ (steps_within (λ rule. length (points (happens table rule.trigger) c.args.w c.args.q))
+    c.args.rules.now c.loop-rule.rule-index c.rule-item.result
+    c.args.steps.now c.loop-rule.steps c.revise_rule.new.steps.count c.loop-rule-test.true
+    c.rule-item.is c.loop-rule.invariant.steps c.in_err-points.ensures.most)
 
 pub returns-in_err-push-clause-most : goal.returns-in_err-push-clause-most
 returns-in_err-push-clause-most g c =
     let table = known c.args.cache.now.rows c.args.store.now in
-    on_err _ (steps_done (λ rule. length (points (happens table rule.trigger) c.args.w c.args.q)) c.args.rules.now c.loop-rule.rule-index c.rule-item.result
-    c.args.steps.now c.loop-rule.steps c.revise_rule.new.steps c.loop-rule-test.true c.rule-item.is c.loop-rule.invariant.steps c.in_ok-points.ensures.steps)
+    on_err _ (steps_done (λ rule. length (points (happens table rule.trigger) c.args.w c.args.q))
+    c.args.rules.now c.loop-rule.rule-index c.rule-item.result
+    c.args.steps.now c.loop-rule.steps c.revise_rule.new.steps c.loop-rule-test.true c.rule-item.is
+    c.loop-rule.invariant.steps c.in_ok-points.ensures.steps)
 
 pub loop-rule-preserved : goal.loop-rule-preserved
 loop-rule-preserved g c =
     let table = known c.args.cache.now.rows c.args.store.now in
     let low : c.rule-item.result.value < length c.loop-rule.parts.items =
-    below_by _ _ c.args.count (value_below c.args.count c.args.rules.now c.loop-rule.rule-index c.rule-item.result c.requires.values c.loop-rule-test.true c.rule-item.is)
+    below_by _ _ c.args.count (value_below c.args.count c.args.rules.now c.loop-rule.rule-index
+    c.rule-item.result c.requires.values c.loop-rule-test.true c.rule-item.is)
     c.loop-rule.invariant.count in
     let here : c.index_mut.result.now ≡ get_or c.loop-rule.parts.items c.rule-item.result.value [] =
     get_or_read c.loop-rule.parts.items _ _ low c.index_mut.ensures.value [] in
     record {
-      count = length-set c.loop-rule.parts.items c.rule-item.result.value c.push.new.self ∙ c.loop-rule.invariant.count;
-      points = λ v t. grown_more (λ rule. points (body_holds table rule) c.args.w c.args.q) c.args.rules.now c.loop-rule.rule-index c.rule-item.result
-          c.loop-rule.parts.items (set c.loop-rule.parts.items c.rule-item.result.value c.push.new.self) c.index_mut.result.now c.push.new.self
-          c.in_ok-points.points v t c.loop-rule-test.true c.rule-item.is low here c.in_ok-points.ensures.found (c.in_ok-push.ensures t) refl
+      count = length-set c.loop-rule.parts.items c.rule-item.result.value c.push.new.self
+          ∙ c.loop-rule.invariant.count;
+      points = λ v t. grown_more (λ rule. points (body_holds table rule) c.args.w c.args.q)
+          c.args.rules.now c.loop-rule.rule-index c.rule-item.result
+          c.loop-rule.parts.items (set c.loop-rule.parts.items c.rule-item.result.value
+          c.push.new.self) c.index_mut.result.now c.push.new.self
+          c.in_ok-points.points v t c.loop-rule-test.true c.rule-item.is low here
+          c.in_ok-points.ensures.found (c.in_ok-push.ensures t) refl
           (c.loop-rule.invariant.points v t);
-      steps = steps_more (λ rule. length (points (happens table rule.trigger) c.args.w c.args.q)) c.args.rules.now c.loop-rule.rule-index c.rule-item.result
-          c.args.steps.now c.loop-rule.steps _ c.loop-rule-test.true c.rule-item.is c.loop-rule.invariant.steps c.in_ok-points.ensures.steps;
+      steps = steps_more (λ rule. length (points (happens table rule.trigger) c.args.w c.args.q))
+          c.args.rules.now c.loop-rule.rule-index c.rule-item.result
+          c.args.steps.now c.loop-rule.steps _ c.loop-rule-test.true c.rule-item.is
+          c.loop-rule.invariant.steps c.in_ok-points.ensures.steps;
     }

@@ -11,6 +11,11 @@ abbrev pub invariant-loop-rule : goal.invariant-loop-rule
 invariant-loop-rule g l = record {
   count : length l.parts.items ≡ l.fn.count;
   points : (v t : ℕ) → some_has (get_or l.parts.items v []) t
-      ≡ list_any (rule_has (λ rule. points (body_holds (known l.cache.rows l.store) rule) l.w l.q) v t) (take l.rule-index l.rules);
-  steps : l.steps ≡ record { count = l.fn.steps.count + evaluations_of (known l.cache.rows l.store) (take l.rule-index l.rules) l.w l.q; out = l.fn.steps.out };
+      ≡ list_any (rule_has (λ rule. points (body_holds (known l.cache.rows l.store) rule) l.w l.q)
+      v t) (take l.rule-index l.rules);
+  steps : l.steps ≡ record {
+    count = l.fn.steps.count + evaluations_of (known l.cache.rows l.store)
+        (take l.rule-index l.rules) l.w l.q;
+    out = l.fn.steps.out;
+  };
 }

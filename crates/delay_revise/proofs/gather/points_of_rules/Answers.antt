@@ -10,21 +10,29 @@ pub loop-rule-preserved : goal.loop-rule-preserved
 loop-rule-preserved g c =
     let table = known c.args.cache.now.rows c.args.store.now in
     record {
-      points = λ t. gathered_more (λ rule. points (body_holds table rule) c.args.w c.args.q) c.args.rules.now c.loop-rule.rule-index c.rule-item.result
-          c.loop-rule.parts c.push.new.self c.in_ok-points.points t c.loop-rule-test.true c.rule-item.is
+      points = λ t. gathered_more (λ rule. points (body_holds table rule) c.args.w c.args.q)
+          c.args.rules.now c.loop-rule.rule-index c.rule-item.result
+          c.loop-rule.parts c.push.new.self c.in_ok-points.points t c.loop-rule-test.true
+          c.rule-item.is
           c.in_ok-points.ensures.found (c.in_ok-push.ensures t) (c.loop-rule.invariant.points t);
-      steps = steps_more (λ rule. length (points (happens table rule.trigger) c.args.w c.args.q)) c.args.rules.now c.loop-rule.rule-index c.rule-item.result
-          c.args.steps.now c.loop-rule.steps _ c.loop-rule-test.true c.rule-item.is c.loop-rule.invariant.steps c.in_ok-points.ensures.steps;
+      steps = steps_more (λ rule. length (points (happens table rule.trigger) c.args.w c.args.q))
+          c.args.rules.now c.loop-rule.rule-index c.rule-item.result
+          c.args.steps.now c.loop-rule.steps _ c.loop-rule-test.true c.rule-item.is
+          c.loop-rule.invariant.steps c.in_ok-points.ensures.steps;
     }
 
 pub returns-in_err-points-clause-most : goal.returns-in_err-points-clause-most
 returns-in_err-points-clause-most g c =
     let table = known c.args.cache.now.rows c.args.store.now in
-    on_err _ (steps_within (λ rule. length (points (happens table rule.trigger) c.args.w c.args.q)) c.args.rules.now c.loop-rule.rule-index c.rule-item.result
-    c.args.steps.now c.loop-rule.steps c.revise_rule.new.steps.count c.loop-rule-test.true c.rule-item.is c.loop-rule.invariant.steps c.in_err-points.ensures.most)
+    on_err _ (steps_within (λ rule. length (points (happens table rule.trigger) c.args.w c.args.q))
+    c.args.rules.now c.loop-rule.rule-index c.rule-item.result
+    c.args.steps.now c.loop-rule.steps c.revise_rule.new.steps.count c.loop-rule-test.true
+    c.rule-item.is c.loop-rule.invariant.steps c.in_err-points.ensures.most)
 
 pub returns-in_err-push-clause-most : goal.returns-in_err-push-clause-most
 returns-in_err-push-clause-most g c =
     let table = known c.args.cache.now.rows c.args.store.now in
-    on_err _ (steps_done (λ rule. length (points (happens table rule.trigger) c.args.w c.args.q)) c.args.rules.now c.loop-rule.rule-index c.rule-item.result
-    c.args.steps.now c.loop-rule.steps c.revise_rule.new.steps c.loop-rule-test.true c.rule-item.is c.loop-rule.invariant.steps c.in_ok-points.ensures.steps)
+    on_err _ (steps_done (λ rule. length (points (happens table rule.trigger) c.args.w c.args.q))
+    c.args.rules.now c.loop-rule.rule-index c.rule-item.result
+    c.args.steps.now c.loop-rule.steps c.revise_rule.new.steps c.loop-rule-test.true c.rule-item.is
+    c.loop-rule.invariant.steps c.in_ok-points.ensures.steps)

@@ -10,6 +10,12 @@ use Rattle.delay_revise.proofs.gather.points_of_rules.Given as goal
 
 abbrev pub invariant-loop-rule : goal.invariant-loop-rule
 invariant-loop-rule g l = record {
-  points : (t : ℕ) → some_has l.parts t ≡ list_any (λ rule. contains (points (body_holds (known l.cache.rows l.store) rule) l.w l.q) t) (take l.rule-index l.rules);
-  steps : l.steps ≡ record { count = l.fn.steps.count + evaluations_of (known l.cache.rows l.store) (take l.rule-index l.rules) l.w l.q; out = l.fn.steps.out };
+  points : (t : ℕ) → some_has l.parts t ≡ list_any
+      (λ rule. contains (points (body_holds (known l.cache.rows l.store) rule) l.w l.q) t)
+      (take l.rule-index l.rules);
+  steps : l.steps ≡ record {
+    count = l.fn.steps.count + evaluations_of (known l.cache.rows l.store)
+        (take l.rule-index l.rules) l.w l.q;
+    out = l.fn.steps.out;
+  };
 }

@@ -8,4 +8,5 @@ use Rattle.delay_revise.proofs.work.rows_of_exprs.Given as goal
 
 abbrev pub invariant-loop-expr : goal.invariant-loop-expr
 invariant-loop-expr l = (w q : ℕ) → w ≤ q → IsInWindow w q l.cache.rows →
-    map pairs l.rows.items ≡ map (λ expr. row (expr_holds (told l.cache.rows) expr) w q) (take l.expr-index l.exprs)
+    map pairs l.rows.items ≡ map (λ expr. row (expr_holds (told l.cache.rows) expr) w q)
+    (take l.expr-index l.exprs)

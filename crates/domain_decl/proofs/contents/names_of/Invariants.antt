@@ -4,4 +4,5 @@ use Rattle.domain_decl.specs.Contents.{domain_words, names_of}
 use Rattle.domain_decl.proofs.contents.names_of.Given as goal
 
 abbrev pub invariant-loop-statement : goal.invariant-loop-statement
-invariant-loop-statement l = l.names.items ≡ names_of (domain_words l.fn.domains) (map plain (take l.statement-index l.statements))
+invariant-loop-statement l = l.names.items ≡ names_of (domain_words l.fn.domains)
+    (map plain (take l.statement-index l.statements))

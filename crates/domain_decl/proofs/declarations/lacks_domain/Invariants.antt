@@ -4,4 +4,5 @@ use Rattle.domain_decl.specs.Lists.{has}
 use Rattle.domain_decl.proofs.declarations.lacks_domain.Given as goal
 
 abbrev pub invariant-loop-argument : goal.invariant-loop-argument
-invariant-loop-argument l = list_any (λ argument. not (has l.domains argument)) (take l.argument-index l.argument-items) ≡ false
+invariant-loop-argument l = list_any (λ argument. not (has l.domains argument))
+    (take l.argument-index l.argument-items) ≡ false

@@ -9,10 +9,18 @@ use Rattle.domain_decl.proofs.known.entities_of.Goals as goal
 
 pub loop-domain-preserved : goal.loop-domain-preserved
 loop-domain-preserved c =
-    rw (c.in_ok-push.ensures.items, take_more c.args.domains.now c.loop-domain.domain-index c.domain-item.result c.loop-domain-test.true, ← c.domain-item.is)
-    (all_zipped_more IsOfDomain _ _ _ c.domain-item.result c.loop-domain.invariant (subst (IsSetOf c.in_ok-set_of.field-0) c.as_slice.ensures c.in_ok-set_of.ensures))
+    rw (
+      c.in_ok-push.ensures.items,
+      take_more c.args.domains.now c.loop-domain.domain-index
+          c.domain-item.result c.loop-domain-test.true,
+      ← c.domain-item.is,
+    )
+    (all_zipped_more IsOfDomain _ _ _ c.domain-item.result c.loop-domain.invariant
+    (subst (IsSetOf c.in_ok-set_of.field-0) c.as_slice.ensures c.in_ok-set_of.ensures))
 
 pub returns : goal.returns
 returns c =
-    let all : take c.loop-domain.domain-index c.args.domains.now ≡ c.args.domains.now = grind (arith, common_steps) in
-    sets_by_place c.loop-domain.sets.items c.args.domains.now (subst (AllZip IsOfDomain c.loop-domain.sets.items) all c.loop-domain.invariant)
+    let all : take c.loop-domain.domain-index c.args.domains.now ≡ c.args.domains.now =
+    grind (arith, common_steps) in
+    sets_by_place c.loop-domain.sets.items c.args.domains.now
+    (subst (AllZip IsOfDomain c.loop-domain.sets.items) all c.loop-domain.invariant)

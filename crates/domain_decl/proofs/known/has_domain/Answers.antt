@@ -7,5 +7,6 @@ use Rattle.domain_decl.proofs.known.has_domain.Goals as goal
 
 pub returns : goal.returns
 returns c =
-    any_from_yields_List (λ domain. bytes_eq domain.word c.args.word.now) _ _ _ c.any.ensures.ran (YieldsList-from_slice c.args.domains.now cc) (λ x b q k. search (rules, tests))
+    any_from_yields_List (λ domain. bytes_eq domain.word c.args.word.now) _ _ _ c.any.ensures.ran
+    (YieldsList-from_slice c.args.domains.now cc) (λ x b q k. search (rules, tests))
     ∙ has_of_items (λ domain. domain.word) c.args.word.now c.args.domains.now

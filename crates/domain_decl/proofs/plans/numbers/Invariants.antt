@@ -5,4 +5,5 @@ use Rattle.domain_decl.specs.Given.{number_in, given_by}
 use Rattle.domain_decl.proofs.plans.numbers.Given as goal
 
 abbrev pub invariant-loop-statement : goal.invariant-loop-statement
-invariant-loop-statement l = l.given ≡ given_by (all_in (number_in l.fn.kind) (map plain (take l.statement-index l.statements)))
+invariant-loop-statement l = l.given ≡ given_by (all_in (number_in l.fn.kind)
+    (map plain (take l.statement-index l.statements)))

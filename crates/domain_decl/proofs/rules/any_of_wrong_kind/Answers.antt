@@ -8,5 +8,7 @@ use Rattle.domain_decl.proofs.rules.any_of_wrong_kind.Goals as goal
 
 pub returns : goal.returns
 returns c =
-    any_from_yields_List (λ m. is_of_wrong_kind c.args.known.now.names.now (mention_of m)) _ _ _ c.any.ensures.ran (YieldsList-from_slice c.args.mentions.now cc) (λ x b q k. search (rules, tests))
+    any_from_yields_List (λ m. is_of_wrong_kind c.args.known.now.names.now (mention_of m)) _ _ _
+    c.any.ensures.ran (YieldsList-from_slice c.args.mentions.now cc) (λ x b q k.
+    search (rules, tests))
     ∙ sym (any_of_mentions (is_of_wrong_kind c.args.known.now.names.now) c.args.mentions.now)

@@ -8,5 +8,8 @@ use Rattle.domain_decl.proofs.rules.any_undeclared_word.Goals as goal
 
 pub returns : goal.returns
 returns c =
-    any_from_yields_List (λ m. has_undeclared_word c.args.known.now.domains.now c.args.known.now.names.now (mention_of m)) _ _ _ c.any.ensures.ran (YieldsList-from_slice c.args.mentions.now cc) (λ x b q k. search (rules, tests))
-    ∙ sym (any_of_mentions (has_undeclared_word c.args.known.now.domains.now c.args.known.now.names.now) c.args.mentions.now)
+    any_from_yields_List (λ m. has_undeclared_word c.args.known.now.domains.now
+    c.args.known.now.names.now (mention_of m)) _ _ _ c.any.ensures.ran
+    (YieldsList-from_slice c.args.mentions.now cc) (λ x b q k. search (rules, tests))
+    ∙ sym (any_of_mentions (has_undeclared_word c.args.known.now.domains.now
+    c.args.known.now.names.now) c.args.mentions.now)

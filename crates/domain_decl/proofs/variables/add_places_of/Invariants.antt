@@ -5,4 +5,5 @@ use Rattle.domain_decl.proofs.variables.add_places_of.Given as goal
 
 abbrev pub invariant-loop-term : goal.invariant-loop-term
 invariant-loop-term l =
-    places_of l.into.items ≡ places_of l.initial.into.items ++ filter_map (λ place. variable_at place.0 place.1) (take (length l.yielded) (zip l.terms l.domains))
+    places_of l.into.items ≡ places_of l.initial.into.items ++ filter_map (λ place.
+    variable_at place.0 place.1) (take (length l.yielded) (zip l.terms l.domains))

@@ -11,5 +11,8 @@ use Rattle.domain_decl.proofs.variables.any_compared_loose.Goals as goal
 
 pub returns : goal.returns
 returns c =
-    any_from_yields_List (λ body. list_any (λ x. not (has (variables (mentions_of c.args.mentions.now)) x)) (compared body)) _ _ _ c.any.ensures.ran (YieldsList-from_slice c.args.bodies.now cc) (λ x b q k. search (rules, tests))
+    any_from_yields_List (λ body. list_any
+    (λ x. not (has (variables (mentions_of c.args.mentions.now)) x)) (compared body)) _ _ _
+    c.any.ensures.ran (YieldsList-from_slice c.args.bodies.now cc) (λ x b q k.
+    search (rules, tests))
     ∙ sym (any_compared (variables (mentions_of c.args.mentions.now)) c.args.bodies.now)

@@ -9,5 +9,7 @@ use Rattle.domain_decl.proofs.variables.any_loose.Goals as goal
 
 pub returns : goal.returns
 returns c =
-    any_from_yields_List (λ m. list_any (is_loose (variables (mentions_of c.args.others.now))) m.atom.now.args) _ _ _ c.any.ensures.ran (YieldsList-from_slice c.args.mentions.now cc) (λ x b q k. search (rules, tests))
+    any_from_yields_List (λ m. list_any (is_loose (variables (mentions_of c.args.others.now)))
+    m.atom.now.args) _ _ _ c.any.ensures.ran (YieldsList-from_slice c.args.mentions.now cc)
+    (λ x b q k. search (rules, tests))
     ∙ sym (any_loose_of (variables (mentions_of c.args.others.now)) c.args.mentions.now)

@@ -8,5 +8,7 @@ use Rattle.domain_decl.proofs.variables.clashes.Goals as goal
 
 pub returns : goal.returns
 returns c =
-    any_from_yields_List (λ other. clash (place_of c.args.one.now) (place_of other)) _ _ _ c.any.ensures.ran (YieldsList-from_slice c.args.places.now cc) (λ x b q k. search (rules, tests))
+    any_from_yields_List (λ other. clash (place_of c.args.one.now) (place_of other)) _ _ _
+    c.any.ensures.ran (YieldsList-from_slice c.args.places.now cc) (λ x b q k.
+    search (rules, tests))
     ∙ sym (any_of_places (clash (place_of c.args.one.now)) c.args.places.now)

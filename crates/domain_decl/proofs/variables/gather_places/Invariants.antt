@@ -5,4 +5,5 @@ use Rattle.domain_decl.proofs.variables.gather_places.Given as goal
 
 abbrev pub invariant-loop-mention : goal.invariant-loop-mention
 invariant-loop-mention l =
-    places_of l.into.items ≡ flat_map (λ m. places_by m.atom.args (declaration l.known.names.now m.atom.name)) (mentions_of (take l.mention-index l.mentions))
+    places_of l.into.items ≡ flat_map (λ m. places_by m.atom.args (declaration l.known.names.now
+    m.atom.name)) (mentions_of (take l.mention-index l.mentions))

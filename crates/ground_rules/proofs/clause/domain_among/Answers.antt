@@ -10,12 +10,22 @@ use Rattle.ground_rules.proofs.clause.domain_among.Goals as goal
 
 pub returns-in-Some : goal.returns-in-Some
 returns-in-Some c =
-    let found : option_map (λ (place : Bor Place). place.now) c.find.result ≡ find (λ (place : Place). bytes_eq place.variable.now c.args.variable.now) c.args.places.now =
-    find_from_yields_List (λ (place : Place). bytes_eq place.variable.now c.args.variable.now) _ _ c.find.result c.find.ensures.ran (YieldsList-from_slice c.args.places.now cc) (λ x b q k. search (rules, tests)) in
-    sym (ap number_at (find_place c.args.variable.now c.args.places.now ∙ ap (option_map place_of) (sym found ∙ ap (option_map (λ (place : Bor Place). place.now)) c.in-Some.is)))
+    let found : option_map (λ (place : Bor Place). place.now) c.find.result
+    ≡ find (λ (place : Place). bytes_eq place.variable.now c.args.variable.now) c.args.places.now
+    =
+    find_from_yields_List (λ (place : Place). bytes_eq place.variable.now c.args.variable.now) _ _
+    c.find.result c.find.ensures.ran (YieldsList-from_slice c.args.places.now cc) (λ x b q k.
+    search (rules, tests)) in
+    sym (ap number_at (find_place c.args.variable.now c.args.places.now ∙ ap (option_map place_of)
+    (sym found ∙ ap (option_map (λ (place : Bor Place). place.now)) c.in-Some.is)))
 
 pub returns-in-None : goal.returns-in-None
 returns-in-None c =
-    let found : option_map (λ (place : Bor Place). place.now) c.find.result ≡ find (λ (place : Place). bytes_eq place.variable.now c.args.variable.now) c.args.places.now =
-    find_from_yields_List (λ (place : Place). bytes_eq place.variable.now c.args.variable.now) _ _ c.find.result c.find.ensures.ran (YieldsList-from_slice c.args.places.now cc) (λ x b q k. search (rules, tests)) in
-    sym (ap number_at (find_place c.args.variable.now c.args.places.now ∙ ap (option_map place_of) (sym found ∙ ap (option_map (λ (place : Bor Place). place.now)) c.in-None.is)))
+    let found : option_map (λ (place : Bor Place). place.now) c.find.result
+    ≡ find (λ (place : Place). bytes_eq place.variable.now c.args.variable.now) c.args.places.now
+    =
+    find_from_yields_List (λ (place : Place). bytes_eq place.variable.now c.args.variable.now) _ _
+    c.find.result c.find.ensures.ran (YieldsList-from_slice c.args.places.now cc) (λ x b q k.
+    search (rules, tests)) in
+    sym (ap number_at (find_place c.args.variable.now c.args.places.now ∙ ap (option_map place_of)
+    (sym found ∙ ap (option_map (λ (place : Bor Place). place.now)) c.in-None.is)))

@@ -6,4 +6,5 @@ use Rattle.ground_rules.proofs.clause.domains_of.Given as goal
 
 abbrev pub invariant-loop-variable : goal.invariant-loop-variable
 invariant-loop-variable l =
-    l.domains.items ≡ map (λ variable. number_at (find (λ place. bytes_eq place.0 variable.now) (places_of l.places))) (take l.variable-index l.variables)
+    l.domains.items ≡ map (λ variable. number_at (find (λ place. bytes_eq place.0 variable.now)
+    (places_of l.places))) (take l.variable-index l.variables)

@@ -4,4 +4,5 @@ use Rattle.ground_rules.specs.Counted.{capped}
 use Rattle.ground_rules.proofs.limits.+leaves.Given as goal
 
 abbrev pub invariant-leaves_of_all-loop-tree : goal.invariant-leaves_of_all-loop-tree
-invariant-leaves_of_all-loop-tree l = l.count ≡ capped (length (flat_map tree_leaves (take l.tree-index l.trees)))
+invariant-leaves_of_all-loop-tree l = l.count
+    ≡ capped (length (flat_map tree_leaves (take l.tree-index l.trees)))

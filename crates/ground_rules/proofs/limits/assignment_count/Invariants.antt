@@ -5,4 +5,5 @@ use Rattle.ground_rules.specs.Clauses.{clause_of}
 use Rattle.ground_rules.proofs.limits.assignment_count.Given as goal
 
 abbrev pub invariant-loop-clause : goal.invariant-loop-clause
-invariant-loop-clause l = l.count ≡ capped (assignment_count (map clause_of (take l.clause-index l.clauses)))
+invariant-loop-clause l = l.count ≡ capped
+    (assignment_count (map clause_of (take l.clause-index l.clauses)))

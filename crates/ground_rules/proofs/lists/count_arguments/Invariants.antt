@@ -5,4 +5,5 @@ use Rattle.ground_rules.proofs.Ordered.{product}
 use Rattle.ground_rules.proofs.lists.count_arguments.Given as goal
 
 abbrev pub invariant-loop-number : goal.invariant-loop-number
-invariant-loop-number l = l.count ≡ capped (product (domain_sizes l.domains (take l.number-index l.numbers)))
+invariant-loop-number l = l.count ≡ capped
+    (product (domain_sizes l.domains (take l.number-index l.numbers)))

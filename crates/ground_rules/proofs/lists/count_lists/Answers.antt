@@ -12,9 +12,11 @@ loop-size-preserved c =
     c.saturating_mul-count.ensures
     ∙ ap (λ n. capped (n * size)) c.loop-size.invariant
     ∙ capped_mul (product (take c.loop-size.size-index c.args.sizes.now)) size
-    ∙ sym (ap capped (ap product (take_more c.args.sizes.now c.loop-size.size-index 0 c.loop-size-test.true) ∙ product_push (take c.loop-size.size-index c.args.sizes.now) size))
+    ∙ sym (ap capped (ap product (take_more c.args.sizes.now c.loop-size.size-index 0
+    c.loop-size-test.true) ∙ product_push (take c.loop-size.size-index c.args.sizes.now) size))
 
 pub returns : goal.returns
 returns c =
-    let all : take c.loop-size.size-index c.args.sizes.now ≡ c.args.sizes.now = grind (arith, common_steps) in
+    let all : take c.loop-size.size-index c.args.sizes.now ≡ c.args.sizes.now =
+    grind (arith, common_steps) in
     c.loop-size.invariant ∙ ap capped (ap product all ∙ sym (length_lists c.args.sizes.now))

@@ -1,4 +1,5 @@
-use Rattle.std.proofs.Common.{◌≡◌, ◌+◌, ◌<◌, ◌∷◌, ℕ, List, [], flat_map, length, slice_get, option_map, map, sym, ap, ◌∙◌, arith}
+use Rattle.std.proofs.Common.{◌≡◌, ◌+◌, ◌<◌, ◌∷◌, ℕ, List, [], flat_map, length, slice_get}
+use Rattle.std.proofs.Common.{option_map, map, sym, ap, ◌∙◌, arith}
 use Rattle.std.proofs.lemmas.List.{map-append}
 use Rattle.std.specs.List.{list_all}
 use Rattle.ground_types.specs.Sound.{argument_lists, arguments_of, domain_sizes}
@@ -7,11 +8,13 @@ use Rattle.ground_rules.specs.Counted.{capped}
 use Rattle.ground_rules.specs.Clauses.{clause_of}
 use Rattle.ground_rules.specs.Grounded.{plain_unit, kind_by}
 use Rattle.ground_rules.specs.Origins.{is_origin, instance_at}
-use Rattle.ground_rules.proofs.ByOrigin.{unit_below, mine_are_origins, mine_are_instances, one_unit_more}
+use Rattle.ground_rules.proofs.ByOrigin.{unit_below, mine_are_origins, mine_are_instances}
+use Rattle.ground_rules.proofs.ByOrigin.{one_unit_more}
 use Rattle.ground_rules.proofs.units.add_units.Goals as goal
 
 -- a number below a count of lists is that of one of them
-inside_of : (lists : List (List ℕ)) (number count : ℕ) → number < count → count ≡ capped (length lists) → number < length lists
+inside_of : (lists : List (List ℕ)) (number count : ℕ) → number < count
+    → count ≡ capped (length lists) → number < length lists
 inside_of lists number count below is = omega arith
 
 pub unit_at-requires-clause-origins : goal.unit_at-requires-clause-origins
@@ -20,11 +23,16 @@ unit_at-requires-clause-origins c =
     let domains = c.args.domains.now in
     let name = c.args.name.now in
     let number = c.loop-number.number in
-    let lists = ap argument_lists (c.as_slice-2.ensures.value ∙ c.in_ok-sizes.ensures ∙ ap (domain_sizes domains) c.as_slice.ensures) in
-    let inside = inside_of (arguments_of domains name) number c.count_lists-number-end.result c.loop-number-test.true (c.count_lists-number-end.ensures ∙ ap (λ ls. capped (length ls)) lists) in
-    let below = unit_below domains (length c.args.origins.now) name c.requires.below (sym c.is_input.ensures ∙ c.if-is_input.false) number inside in
+    let lists = ap argument_lists (c.as_slice-2.ensures.value ∙ c.in_ok-sizes.ensures
+    ∙ ap (domain_sizes domains) c.as_slice.ensures) in
+    let inside = inside_of (arguments_of domains name) number c.count_lists-number-end.result
+    c.loop-number-test.true (c.count_lists-number-end.ensures ∙ ap (λ ls. capped (length ls))
+    lists) in
+    let below = unit_below domains (length c.args.origins.now) name c.requires.below
+    (sym c.is_input.ensures ∙ c.if-is_input.false) number inside in
     ap (list_all (is_origin clauses)) c.get-mine.ensures
-    ∙ mine_are_origins clauses c.requires.few c.args.origins.now c.requires.origins (name.first + number) below
+    ∙ mine_are_origins clauses c.requires.few c.args.origins.now c.requires.origins
+    (name.first + number) below
 
 pub loop-number-preserved : goal.loop-number-preserved
 loop-number-preserved c =
@@ -36,12 +44,25 @@ loop-number-preserved c =
     let units = c.loop-number.units.items in
     let unit = c.in_ok-unit_at.field-0 in
     let mine = map (instance_at clauses) c.get-mine.result.now in
-    let lists = ap argument_lists (c.as_slice-2.ensures.value ∙ c.in_ok-sizes.ensures ∙ ap (domain_sizes domains) c.as_slice.ensures) in
-    let these = ap argument_lists (c.as_slice-in-loop-number.ensures.value ∙ c.in_ok-sizes.ensures ∙ ap (domain_sizes domains) c.as_slice.ensures) in
-    let inside = inside_of (arguments_of domains name) number c.count_lists-number-end.result c.loop-number-test.true (c.count_lists-number-end.ensures ∙ ap (λ ls. capped (length ls)) lists) in
-    let below = unit_below domains (length c.args.origins.now) name c.requires.below (sym c.is_input.ensures ∙ c.if-is_input.false) number inside in
-    let are = ap (map (instance_at clauses)) c.get-mine.ensures ∙ mine_are_instances clauses c.requires.few c.args.origins.now c.requires.origins (name.first + number) below in
-    let is = ap (λ ls. option_map (λ a. record { name = c.args.place; args = a; kind = kind_by name.kind (length name.values) mine }) (slice_get ls number)) (sym these) ∙ c.in_ok-unit_at.ensures in
+    let lists = ap argument_lists (c.as_slice-2.ensures.value ∙ c.in_ok-sizes.ensures
+    ∙ ap (domain_sizes domains) c.as_slice.ensures) in
+    let these = ap argument_lists (c.as_slice-in-loop-number.ensures.value ∙ c.in_ok-sizes.ensures
+    ∙ ap (domain_sizes domains) c.as_slice.ensures) in
+    let inside = inside_of (arguments_of domains name) number c.count_lists-number-end.result
+    c.loop-number-test.true (c.count_lists-number-end.ensures ∙ ap (λ ls. capped (length ls))
+    lists) in
+    let below = unit_below domains (length c.args.origins.now) name c.requires.below
+    (sym c.is_input.ensures ∙ c.if-is_input.false) number inside in
+    let are = ap (map (instance_at clauses)) c.get-mine.ensures ∙ mine_are_instances clauses
+    c.requires.few c.args.origins.now c.requires.origins (name.first + number) below in
+    let is = ap (λ ls. option_map (λ a. record {
+      name = c.args.place;
+      args = a;
+      kind = kind_by name.kind (length name.values) mine;
+    }) (slice_get ls number)) (sym these)
+    ∙ c.in_ok-unit_at.ensures in
     ap (map plain_unit) c.in_ok-push.ensures.items
     ∙ map-append plain_unit units (unit ∷ [])
-    ∙ one_unit_more all c.args.place name (arguments_of domains name) number inside (map plain_unit c.args.units.now.items) (map plain_unit units) (plain_unit unit) mine are is c.loop-number.invariant
+    ∙ one_unit_more all c.args.place name (arguments_of domains name) number inside
+    (map plain_unit c.args.units.now.items) (map plain_unit units) (plain_unit unit) mine are is
+    c.loop-number.invariant

@@ -7,4 +7,6 @@ use Rattle.ground_rules.proofs.ByOrigin.{units_among}
 use Rattle.ground_rules.proofs.units.add_units.Given as goal
 
 abbrev pub invariant-loop-number : goal.invariant-loop-number
-invariant-loop-number l = map plain_unit l.units.items ≡ map plain_unit l.initial.units.items ++ units_among (flat_map instances (map clause_of l.clauses)) l.place l.name (take l.number (arguments_of l.domains l.name))
+invariant-loop-number l = map plain_unit l.units.items ≡ map plain_unit l.initial.units.items
+    ++ units_among (flat_map instances (map clause_of l.clauses)) l.place l.name
+    (take l.number (arguments_of l.domains l.name))

@@ -9,7 +9,9 @@ use Rattle.ground_rules.proofs.units.by_value.Goals as goal
 
 pub loop-origin-init : goal.loop-origin-init
 loop-origin-init c =
-    c.in_ok-origins.ensures ∙ sym (all_empty (with_key (λ origin. head_value (instance_at (map clause_of c.args.clauses.now) origin)) []) (λ k. refl) 0 c.args.values)
+    c.in_ok-origins.ensures ∙ sym (all_empty
+    (with_key (λ origin. head_value (instance_at (map clause_of c.args.clauses.now) origin)) [])
+    (λ k. refl) 0 c.args.values)
 
 pub loop-origin-preserved : goal.loop-origin-preserved
 loop-origin-preserved c =
@@ -19,7 +21,8 @@ loop-origin-preserved c =
     let origin = get_or mine i (record { statement = 0; assignment = 0 }) in
     let key = λ (o : Origin). head_value (instance_at clauses o) in
     c.in_ok-push.ensures
-    ∙ ap (λ n. set c.loop-origin.origins n (get_or c.loop-origin.origins n [] ++ origin ∷ [])) (c.head_value.ensures ∙ ap head_value c.in_ok-instance.ensures)
+    ∙ ap (λ n. set c.loop-origin.origins n (get_or c.loop-origin.origins n [] ++ origin ∷ []))
+    (c.head_value.ensures ∙ ap head_value c.in_ok-instance.ensures)
     ∙ ap (λ lists. put key lists origin) c.loop-origin.invariant
     ∙ sym (gathered_more key c.args.values (take i mine) origin)
     ∙ ap (gathered key c.args.values) (sym (take_more mine i _ c.loop-origin-test.true))

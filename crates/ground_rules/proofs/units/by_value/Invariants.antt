@@ -5,4 +5,6 @@ use Rattle.ground_rules.specs.Origins.{gathered, instance_at}
 use Rattle.ground_rules.proofs.units.by_value.Given as goal
 
 abbrev pub invariant-loop-origin : goal.invariant-loop-origin
-invariant-loop-origin l = l.origins ≡ gathered (λ origin. head_value (instance_at (map clause_of l.clauses) origin)) l.values (take l.origin-index l.mine)
+invariant-loop-origin l = l.origins ≡ gathered (λ origin.
+    head_value (instance_at (map clause_of l.clauses) origin)) l.values
+    (take l.origin-index l.mine)

@@ -16,4 +16,5 @@ loop-value-preserved c =
     c.lesser-least.ensures
     ∙ ap (λ o. lesser c.args.values o (get_or given i 0)) c.loop-value.invariant
     ∙ sym (first_with_more (take i given) (get_or given i 0) c.args.values)
-    ∙ ap (λ xs. find (contains xs) (range_with_len 0 c.args.values)) (sym (take_more given i 0 c.loop-value-test.true))
+    ∙ ap (λ xs. find (contains xs) (range_with_len 0 c.args.values))
+    (sym (take_more given i 0 c.loop-value-test.true))

@@ -12,8 +12,12 @@ loop-origin-preserved c =
     let loop = c.loop-origin in
     let by = c.opening.ensures ∙ ap (λ i. opening_by i i.clause.form) c.in_ok-instance.ensures in
     elim c.match-opening.branch [
-      | in-Some+in_ok-push w ↦ one_given clauses mine loop.origin-index _ c.loop-origin-test.true (λ i. opening_by i i.clause.form) c.opening.result by loop.values.items loop.invariant
-          w.in-Some.value c.match-opening.values.items w.in-Some.is (ap (λ v. v.items) w.values-is ∙ w.in_ok-push.ensures.items)
+      | in-Some+in_ok-push w ↦ one_given clauses mine loop.origin-index _ c.loop-origin-test.true
+          (λ i. opening_by i i.clause.form) c.opening.result by loop.values.items loop.invariant
+          w.in-Some.value c.match-opening.values.items w.in-Some.is (ap (λ v. v.items) w.values-is
+          ∙ w.in_ok-push.ensures.items)
       | in_default w ↦ ap (λ v. v.items) w.values-is
-          ∙ none_given clauses mine loop.origin-index _ c.loop-origin-test.true (λ i. opening_by i i.clause.form) c.opening.result by loop.values.items loop.invariant w.in_default.is
+          ∙ none_given clauses mine loop.origin-index _ c.loop-origin-test.true
+          (λ i. opening_by i i.clause.form) c.opening.result by loop.values.items loop.invariant
+          w.in_default.is
     ]

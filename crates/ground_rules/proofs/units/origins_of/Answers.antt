@@ -11,13 +11,21 @@ pub loop-statement-preserved : goal.loop-statement-preserved
 loop-statement-preserved c =
     let clauses = map clause_of c.args.clauses.now in
     c.in_ok-add_origins.ensures
-    ∙ ap (λ lists. fold (put (unit_at clauses)) lists (origins_at clauses c.loop-statement.statement)) c.loop-statement.invariant
+    ∙ ap (λ lists. fold (put (unit_at clauses)) lists
+    (origins_at clauses c.loop-statement.statement)) c.loop-statement.invariant
     ∙ origins_more clauses c.loop-statement.statement (replicate c.args.units [])
 
 pub returns : goal.returns
 returns c =
     let clauses = map clause_of c.args.clauses.now in
-    let all : c.loop-statement.statement ≡ length clauses = omega (arith, length-map c.args.clauses.now clause_of, c.loop-statement-test.false, c.loop-statement.auto.statement-end) in
+    let all : c.loop-statement.statement ≡ length clauses =
+    omega (
+      arith,
+      length-map c.args.clauses.now clause_of,
+      c.loop-statement-test.false,
+      c.loop-statement.auto.statement-end,
+    ) in
     c.loop-statement.invariant
-    ∙ ap (λ n. fold (put (unit_at clauses)) (replicate c.args.units []) (flat_map (origins_at clauses) (range_with_len 0 n))) all
+    ∙ ap (λ n. fold (put (unit_at clauses)) (replicate c.args.units [])
+    (flat_map (origins_at clauses) (range_with_len 0 n))) all
     ∙ gathered_from_none (unit_at clauses) c.args.units (origins_of clauses)

@@ -5,4 +5,6 @@ use Rattle.ground_rules.specs.Origins.{put, unit_at, origins_at}
 use Rattle.ground_rules.proofs.units.origins_of.Given as goal
 
 abbrev pub invariant-loop-statement : goal.invariant-loop-statement
-invariant-loop-statement l = l.origins ≡ fold (put (unit_at (map clause_of l.clauses))) (replicate l.units []) (flat_map (origins_at (map clause_of l.clauses)) (range_with_len 0 l.statement))
+invariant-loop-statement l = l.origins ≡ fold (put (unit_at (map clause_of l.clauses)))
+    (replicate l.units []) (flat_map (origins_at (map clause_of l.clauses))
+    (range_with_len 0 l.statement))

@@ -6,4 +6,6 @@ use Rattle.ground_rules.specs.Origins.{instance_at}
 use Rattle.ground_rules.proofs.units.union_of.Given as goal
 
 abbrev pub invariant-loop-origin : goal.invariant-loop-origin
-invariant-loop-origin l = map plain_expr l.members.items ≡ filter_map (λ i. expression_by i i.clause.form) (map (instance_at (map clause_of l.clauses)) (take l.origin-index l.mine))
+invariant-loop-origin l = map plain_expr l.members.items
+    ≡ filter_map (λ i. expression_by i i.clause.form) (map (instance_at (map clause_of l.clauses))
+    (take l.origin-index l.mine))

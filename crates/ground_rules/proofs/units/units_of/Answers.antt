@@ -14,14 +14,17 @@ pub add_units-requires-clause-few : goal.add_units-requires-clause-few
 add_units-requires-clause-few c = are_few (map clause_of c.args.clauses.now) c.requires.assignments
 
 pub add_units-requires-clause-origins : goal.add_units-requires-clause-origins
-add_units-requires-clause-origins c = (are_origins (map clause_of c.args.clauses.now) c.args.count c.in_ok-origins.origins c.in_ok-origins.ensures).1
+add_units-requires-clause-origins c = (are_origins (map clause_of c.args.clauses.now) c.args.count
+    c.in_ok-origins.origins c.in_ok-origins.ensures).1
 
 pub add_units-requires-clause-below : goal.add_units-requires-clause-below
 add_units-requires-clause-below c =
-    let len = (are_origins (map clause_of c.args.clauses.now) c.args.count c.in_ok-origins.origins c.in_ok-origins.ensures).0 in
+    let len = (are_origins (map clause_of c.args.clauses.now) c.args.count c.in_ok-origins.origins
+    c.in_ok-origins.ensures).0 in
     let name = c.index-names-place in
     ap (λ n. has_units_below c.args.domains.now n name.result) len
-    ∙ passes_here (has_units_below c.args.domains.now c.args.count) c.args.names.now c.loop-place.place name.result c.requires.below c.loop-place-test.true name.is
+    ∙ passes_here (has_units_below c.args.domains.now c.args.count) c.args.names.now
+    c.loop-place.place name.result c.requires.below c.loop-place-test.true name.is
 
 pub loop-place-preserved : goal.loop-place-preserved
 loop-place-preserved c =
@@ -32,5 +35,6 @@ loop-place-preserved c =
     let name = c.index-names-place in
     c.in_ok-add_units.ensures
     ∙ ap (λ us. us ++ units_by domains all (place, name.result)) c.loop-place.invariant
-    ∙ ap (λ n. flat_map (units_by domains all) (enumerate_from 0 (take place names)) ++ units_by domains all (place, n)) name.is
+    ∙ ap (λ n. flat_map (units_by domains all) (enumerate_from 0 (take place names)) ++ units_by
+    domains all (place, n)) name.is
     ∙ one_name_more domains all names place name.result c.loop-place-test.true

@@ -6,4 +6,6 @@ use Rattle.ground_rules.specs.Grounded.{plain_unit, units_by}
 use Rattle.ground_rules.proofs.units.units_of.Given as goal
 
 abbrev pub invariant-loop-place : goal.invariant-loop-place
-invariant-loop-place l = map plain_unit l.units.items ≡ flat_map (units_by l.domains (flat_map instances (map clause_of l.clauses))) (enumerate_from 0 (take l.place l.names))
+invariant-loop-place l = map plain_unit l.units.items
+    ≡ flat_map (units_by l.domains (flat_map instances (map clause_of l.clauses)))
+    (enumerate_from 0 (take l.place l.names))

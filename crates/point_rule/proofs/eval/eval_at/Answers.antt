@@ -4,4 +4,5 @@ use Rattle.point_rule.proofs.eval.eval_at.Goals as goal
 
 pub conditions_hold-requires-clause-units : goal.conditions_hold-requires-clause-units
 conditions_hold-requires-clause-units g c =
-    rw c.as_slice.ensures (of_conditions (λ unit. nat_lt unit (length c.args.cache.now.rows)) c.args.rule.now c.requires.rows)
+    rw c.as_slice.ensures (of_conditions (λ unit. nat_lt unit (length c.args.cache.now.rows))
+    c.args.rule.now c.requires.rows)

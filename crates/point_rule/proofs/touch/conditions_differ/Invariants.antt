@@ -7,5 +7,6 @@ use Rattle.point_rule.proofs.touch.conditions_differ.Given as goal
 
 abbrev pub invariant-loop-cond : goal.invariant-loop-cond
 invariant-loop-cond l =
-    list_any (λ cond. differs (condition_holds (known_before l.cache l.store) cond l.at) (condition_holds (known l.cache.rows l.store) cond l.at))
+    list_any (λ cond. differs (condition_holds (known_before l.cache l.store) cond l.at)
+    (condition_holds (known l.cache.rows l.store) cond l.at))
     (take l.cond-index l.conds) ≡ false

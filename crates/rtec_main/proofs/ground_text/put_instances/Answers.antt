@@ -5,5 +5,7 @@ use Rattle.rtec_main.proofs.ground_text.put_instances.Goals as goal
 
 pub loop-place-preserved : goal.loop-place-preserved
 loop-place-preserved c =
-    instance_more (listed_at c.args.instances.now c.args.unit) c.loop-place.place (plain_form c.in_ok-form.form) c.args.out.now.items c.loop-place.out.items c.put_instance.new.out.items
+    instance_more (listed_at c.args.instances.now c.args.unit) c.loop-place.place
+    (plain_form c.in_ok-form.form) c.args.out.now.items c.loop-place.out.items
+    c.put_instance.new.out.items
     c.in_ok-form.ensures c.loop-place.invariant c.in_ok-put_instance.ensures

@@ -10,8 +10,11 @@ pub loop-unit-preserved : goal.loop-unit-preserved
 loop-unit-preserved c =
     let program = c.args.program.now in
     let number = get_or c.args.units.now c.loop-unit.unit-index 0 in
-    number_more (λ unit. numbered_text program.domains program.names c.args.layer (slice_get (map plain_unit program.units) unit) (listed_at c.args.instances.now unit))
-    c.args.units.now c.loop-unit.unit-index c.args.out.now.items c.loop-unit.out.items c.put_numbered.new.out.items c.loop-unit-test.true c.loop-unit.invariant
+    number_more (λ unit. numbered_text program.domains program.names c.args.layer
+    (slice_get (map plain_unit program.units) unit) (listed_at c.args.instances.now unit))
+    c.args.units.now c.loop-unit.unit-index c.args.out.now.items c.loop-unit.out.items
+    c.put_numbered.new.out.items c.loop-unit-test.true c.loop-unit.invariant
     (c.in_ok-put_numbered.ensures
-    ∙ ap (λ unit. c.loop-unit.out.items ++ numbered_text program.domains program.names c.args.layer unit (listed_at c.args.instances.now number))
+    ∙ ap (λ unit. c.loop-unit.out.items ++ numbered_text program.domains program.names c.args.layer
+    unit (listed_at c.args.instances.now number))
     (sym (slice_get-map plain_unit program.units number)))

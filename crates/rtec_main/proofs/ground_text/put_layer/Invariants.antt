@@ -8,4 +8,6 @@ abbrev pub invariant-loop-unit : goal.invariant-loop-unit
 invariant-loop-unit l =
     l.out.items
     ≡ l.fn.out.items
-    ++ flat_map (λ unit. numbered_text l.program.domains l.program.names l.layer (slice_get (map plain_unit l.program.units) unit) (listed_at l.instances unit)) (take l.unit-index l.units)
+    ++ flat_map (λ unit. numbered_text l.program.domains l.program.names l.layer
+    (slice_get (map plain_unit l.program.units) unit) (listed_at l.instances unit))
+    (take l.unit-index l.units)

@@ -8,4 +8,6 @@ use Rattle.rtec_main.proofs.ground_text.put_layers.Given as goal
 
 abbrev pub invariant-loop-place : goal.invariant-loop-place
 invariant-loop-place l =
-    l.out.items ≡ l.fn.out.items ++ flat_map (layer_text (plain_program l.program) (flat_map instances (clauses_in l.instances))) (take l.place (enumerate_from 1 l.program.layers))
+    l.out.items ≡ l.fn.out.items ++ flat_map (layer_text (plain_program l.program)
+    (flat_map instances (clauses_in l.instances)))
+    (take l.place (enumerate_from 1 l.program.layers))

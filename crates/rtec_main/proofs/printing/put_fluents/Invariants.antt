@@ -11,4 +11,5 @@ invariant-loop-value l =
     ≡ l.fn.out.items
     ++ text_of_lines
     (flat_map (fluent_lines l.q (unit_atom l.program l.unit))
-    (take (length l.yielded) (zip (value_words (slice_get l.program.names l.unit.name)) (map pairs l.rows))))
+    (take (length l.yielded) (zip (value_words (slice_get l.program.names l.unit.name))
+    (map pairs l.rows))))

@@ -8,20 +8,31 @@ use Rattle.rtec_main.proofs.printing.put_further.Goals as goal
 
 pub loop-domain-preserved : goal.loop-domain-preserved
 loop-domain-preserved c =
-    let turn = zip_turn c.args.places.now c.args.args.now c.loop-domain.yielded c.into_iter-domain-iterator.result c.loop-domain.domain-iterator c.next.new.self c.next.result
-    (cc) (cc) c.loop-domain.yielded_by (c.in-Some.domain, c.in-Some.entity) c.in-Some.is c.next.ensures.steps in
-    let more = pair_push (λ (place : ℕ × ℕ). codes "," ++ entity_word c.args.domains.now place) c.args.places.now c.args.args.now (length c.loop-domain.yielded)
-    c.in-Some.domain.now c.in-Some.entity.now turn _ (length_push c.loop-domain.yielded (c.in-Some.domain, c.in-Some.entity)) in
+    let turn = zip_turn c.args.places.now c.args.args.now c.loop-domain.yielded
+    c.into_iter-domain-iterator.result c.loop-domain.domain-iterator c.next.new.self
+    c.next.result
+    (cc) (cc) c.loop-domain.yielded_by (c.in-Some.domain, c.in-Some.entity) c.in-Some.is
+    c.next.ensures.steps in
+    let more = pair_push (λ (place : ℕ × ℕ). codes "," ++ entity_word c.args.domains.now place)
+    c.args.places.now c.args.args.now (length c.loop-domain.yielded)
+    c.in-Some.domain.now c.in-Some.entity.now turn _ (length_push c.loop-domain.yielded
+    (c.in-Some.domain, c.in-Some.entity)) in
     grown c.args.out.now.items _ _ _ _ c.loop-domain.invariant
     (rw (c.in_ok-put_text-2.ensures, c.in_ok-put_text.ensures, c.entity_word.ensures)
-    (append_assoc c.loop-domain.out.items (codes ",") (entity_word c.args.domains.now (c.in-Some.domain.now, c.in-Some.entity.now))))
+    (append_assoc c.loop-domain.out.items (codes ",") (entity_word c.args.domains.now
+    (c.in-Some.domain.now, c.in-Some.entity.now))))
     ∙ ap (λ (l : List ℕ). c.args.out.now.items ++ l) (sym more)
 
 pub returns : goal.returns
 returns c =
-    let count = zip_end c.args.places.now c.args.args.now c.loop-domain.yielded c.into_iter-domain-iterator.result c.loop-domain.domain-iterator c.next.new.self c.next.result
+    let count = zip_end c.args.places.now c.args.args.now c.loop-domain.yielded
+    c.into_iter-domain-iterator.result c.loop-domain.domain-iterator c.next.new.self
+    c.next.result
     (cc) (cc) c.loop-domain.yielded_by c.in-None.is c.next.ensures.steps in
     c.loop-domain.invariant
-    ∙ ap (λ (l : List (ℕ × ℕ)). c.args.out.now.items ++ flat_map (λ (place : ℕ × ℕ). codes "," ++ entity_word c.args.domains.now place) l)
+    ∙ ap (λ (l : List (ℕ × ℕ)). c.args.out.now.items ++ flat_map (λ (place : ℕ × ℕ). codes ","
+    ++ entity_word c.args.domains.now place) l)
     (pairs_whole c.args.places.now c.args.args.now (length c.loop-domain.yielded) count)
-    ∙ ap (λ (l : List ℕ). c.args.out.now.items ++ l) (sym (flat_map_map (λ (word : List ℕ). codes "," ++ word) (entity_word c.args.domains.now) _))
+    ∙ ap (λ (l : List ℕ). c.args.out.now.items ++ l)
+    (sym (flat_map_map (λ (word : List ℕ). codes "," ++ word) (entity_word c.args.domains.now)
+    _))

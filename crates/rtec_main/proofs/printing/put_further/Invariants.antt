@@ -5,4 +5,5 @@ use Rattle.rtec_main.proofs.printing.put_further.Given as goal
 
 abbrev pub invariant-loop-domain : goal.invariant-loop-domain
 invariant-loop-domain l =
-    l.out.items ≡ l.fn.out.items ++ flat_map (λ place. codes "," ++ entity_word l.domains place) (take (length l.yielded) (zip l.places l.args))
+    l.out.items ≡ l.fn.out.items ++ flat_map (λ place. codes "," ++ entity_word l.domains place)
+    (take (length l.yielded) (zip l.places l.args))

@@ -10,4 +10,5 @@ invariant-loop-unit l =
     l.out.items
     ≡ l.fn.out.items
     ++ text_of_lines
-    (flat_map (λ unit. unit_lines l.program l.q unit.0 unit.1) (take (length l.yielded) (zip l.program.units (map published l.rows))))
+    (flat_map (λ unit. unit_lines l.program l.q unit.0 unit.1)
+    (take (length l.yielded) (zip l.program.units (map published l.rows))))

@@ -5,4 +5,5 @@ use Rattle.rtec_main.specs.Report.{span_text}
 use Rattle.rtec_main.proofs.printing.put_spans.Given as goal
 
 abbrev pub invariant-loop-span : goal.invariant-loop-span
-invariant-loop-span l = l.out.items ≡ l.fn.out.items ++ flat_map (span_text l.q) (pairs (take l.span-index l.spans))
+invariant-loop-span l = l.out.items ≡ l.fn.out.items ++ flat_map (span_text l.q)
+    (pairs (take l.span-index l.spans))

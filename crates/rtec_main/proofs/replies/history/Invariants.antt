@@ -5,4 +5,5 @@ use Rattle.rtec_main.proofs.replies.history.Given as goal
 
 -- the history of the commands so far
 abbrev pub invariant-loop-placed : goal.invariant-loop-placed
-invariant-loop-placed l = l.history.items ≡ history_of l.plan (commands_of (take l.placed-index l.commands))
+invariant-loop-placed l = l.history.items ≡ history_of l.plan
+    (commands_of (take l.placed-index l.commands))

@@ -7,7 +7,8 @@ use Rattle.rtec_main.proofs.standing.store_of.Goals as goal
 
 pub returns : goal.returns
 returns c event t =
-    let whole : take c.loop-entry.entry-index c.args.history.now ≡ c.args.history.now = take_all _ _ (omega arith) in
+    let whole : take c.loop-entry.entry-index c.args.history.now ≡ c.args.history.now =
+    take_all _ _ (omega arith) in
     c.loop-entry.invariant event t
     ∙ ap (λ (entries : List Entry). list_any (counts_for event t) entries) whole
     ∙ sym (stands_where_told c.args.history.now c.requires event t)

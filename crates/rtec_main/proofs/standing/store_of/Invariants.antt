@@ -7,4 +7,5 @@ use Rattle.rtec_main.proofs.standing.store_of.Given as goal
 
 abbrev pub invariant-loop-entry : goal.invariant-loop-entry
 invariant-loop-entry l =
-    (event t : ℕ) → has (standing l.store event) t ≡ list_any (counts_for event t) (take l.entry-index l.history)
+    (event t : ℕ) → has (standing l.store event) t ≡ list_any (counts_for event t)
+    (take l.entry-index l.history)

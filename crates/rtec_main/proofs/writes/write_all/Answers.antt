@@ -7,7 +7,8 @@ write-preserved g c =
     record {
       written = (
         c.write.invariant.written.0 + c.in_ok-count.count,
-        written_more _ _ _ _ _ _ _ c.write.invariant.written.1 c.in_ok-count.ensures.front.within c.in_ok-count.ensures.ok _ (whole_tail c.write.rest.now c.in_ok-count.count),
+        written_more _ _ _ _ _ _ _ c.write.invariant.written.1 c.in_ok-count.ensures.front.within
+            c.in_ok-count.ensures.ok _ (whole_tail c.write.rest.now c.in_ok-count.count),
       );
       later = omega (arith, c.write.invariant.later, c.in_ok-count.ensures.cause.later);
     }

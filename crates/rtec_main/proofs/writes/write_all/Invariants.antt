@@ -8,7 +8,8 @@ pub record Keeps (Written Later : Type 0) : Type 0 where
 
 abbrev pub invariant-write : goal.invariant-write
 invariant-write g l =
-    Keeps ((n : ℕ) × IsWritten l.text (g.K.Sink.taken l.fn.out) (g.K.Sink.taken l.out) l.rest n) (g.K.Sink.faults l.fn.out ≤ g.K.Sink.faults l.out)
+    Keeps ((n : ℕ) × IsWritten l.text (g.K.Sink.taken l.fn.out) (g.K.Sink.taken l.out) l.rest n)
+    (g.K.Sink.faults l.fn.out ≤ g.K.Sink.faults l.out)
 
 abbrev pub decreases-write : goal.decreases-write
 decreases-write g l = length l.rest

@@ -173,7 +173,8 @@ fn the_first_fault_of_a_description_is_named(rt: HostRuntime) -> Result<(), Fail
             "happensAt(down). end",
             DescFault::BadStatement { line: 8 },
         ),
-        // The plan before declarations, these before rules, and the first test of a rule before the others.
+        // The plan before declarations, these before rules, and the first test of a rule before the
+        // others.
         (
             "step(5).\nfrom(0).\ninput up.",
             "step(11).\nfrom(0).\ninput up. input up.",

@@ -3,8 +3,8 @@ use super::{LAMP, MEETING, grounded};
 use crate::status::Status;
 use std::test::Fail;
 
-// A fluent with an opening value, one whose layer is below although it is declared later, a derived event, a static
-// fluent, and a domain without entities.
+// A fluent with an opening value, one whose layer is below although it is declared later, a derived
+// event, a static fluent, and a domain without entities.
 const PORT: &str = "window(10).\nstep(5).\ndomain d [p, q].\ndomain none [].\ninput b(d).\n\
 simple late(d) [true].\nsimple s(d) [none, some].\nsimple unseen(none) [true].\nderived alarm.\nstatic calm [true].\n\
 terminatedAt(s(Z)=none) :- happensAt(b(Z)).\n\

@@ -62,7 +62,8 @@ fn conditions_are_as_worked_by_hand(rt: HostRuntime) -> Result<(), Fail> {
             "add,1,2,hot\nadd,1,3,up\nadd,1,5,cold\nadd,1,6,up\nseal\n",
             "query 0 window (0,10] evaluations 4\n  on=true (6,open)\n  heat=true (2,5]\nignored 0\n",
         ),
-        // A value that begins at a point does not hold there yet, and one that ends there still does.
+        // A value that begins at a point does not hold there yet, and one that ends there still
+        // does.
         (
             "add,1,3,hot\nadd,1,3,up\nseal\n",
             "query 0 window (0,10] evaluations 2\n  on=true (3,open)\n  heat=true (3,open)\nignored 0\n",

@@ -4,4 +4,5 @@ use Rattle.rule_read.specs.Forms.{commas, word_tokens}
 use Rattle.rule_read.proofs.printer.put_words.Given as goal
 
 abbrev pub invariant-loop-turn : goal.invariant-loop-turn
-invariant-loop-turn l = tokens l.out.items ≡ tokens l.initial.out.items ++ commas (map word_tokens (take l.turn l.words))
+invariant-loop-turn l = tokens l.out.items ≡ tokens l.initial.out.items ++ commas
+    (map word_tokens (take l.turn l.words))

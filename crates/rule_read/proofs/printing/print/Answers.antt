@@ -13,14 +13,17 @@ pub unreachable-requires : goal.unreachable-requires
 unreachable-requires c =
     let forms = map (λ s. plain_form s.form) c.args.syntax.now.statements in
     let sound = forms_sound c.args.syntax.now.statements c.requires.forms in
-    let text = c.in_ok-print_forms.ensures ∙ ap (λ ss. text_of (map (λ s. plain_form s.form) ss)) c.as_slice.ensures in
-    absurd (false≢true (c.in-Err.ensures.succeeds (subst IsUtf8 (sym text) (text_is_utf8 forms sound))))
+    let text = c.in_ok-print_forms.ensures ∙ ap (λ ss. text_of (map (λ s. plain_form s.form) ss))
+    c.as_slice.ensures in
+    absurd (false≢true (c.in-Err.ensures.succeeds
+    (subst IsUtf8 (sym text) (text_is_utf8 forms sound))))
 
 pub returns-clause-spelled : goal.returns-clause-spelled
 returns-clause-spelled c =
     let forms = map (λ s. plain_form s.form) c.args.syntax.now.statements in
     let sound = forms_sound c.args.syntax.now.statements c.requires.forms in
-    let text = ap (λ (v : Vec ℕ). v.items) c.in-Ok.ensures.ok ∙ c.in_ok-print_forms.ensures ∙ ap (λ ss. text_of (map (λ s. plain_form s.form) ss)) c.as_slice.ensures in
+    let text = ap (λ (v : Vec ℕ). v.items) c.in-Ok.ensures.ok ∙ c.in_ok-print_forms.ensures
+    ∙ ap (λ ss. text_of (map (λ s. plain_form s.form) ss)) c.as_slice.ensures in
     subst (λ bytes. Spells bytes (on_lines 1 forms)) (sym text) (text_spelled forms sound)
 
 pub returns-clause-again : goal.returns-clause-again

@@ -4,4 +4,5 @@ use Rattle.rule_read.specs.Canonical.{text_of}
 use Rattle.rule_read.proofs.printing.print_forms.Given as goal
 
 abbrev pub invariant-loop-statement : goal.invariant-loop-statement
-invariant-loop-statement l = l.out.items ≡ text_of (map (λ s. plain_form s.form) (take l.statement-index l.statements))
+invariant-loop-statement l = l.out.items
+    ≡ text_of (map (λ s. plain_form s.form) (take l.statement-index l.statements))

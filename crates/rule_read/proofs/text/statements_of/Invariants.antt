@@ -7,7 +7,8 @@ use Rattle.rule_read.proofs.text.statements_of.Given as goal
 
 abbrev pub invariant-loop-statements : goal.invariant-loop-statements
 invariant-loop-statements l = record {
-  said : forms_of (sentences_of l.text) ≡ after_first (map plain l.statements.items) (forms_of (sentences (pieces l.lexer.line l.lexer.rest.now)));
+  said : forms_of (sentences_of l.text) ≡ after_first (map plain l.statements.items)
+      (forms_of (sentences (pieces l.lexer.line l.lexer.rest.now)));
   fine : bad_byte_of l.text ≡ first_bad (pieces l.lexer.line l.lexer.rest.now);
   few : length l.statements.items + length l.lexer.rest.now ≤ length l.text;
 }

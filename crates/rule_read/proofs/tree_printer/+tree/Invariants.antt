@@ -5,4 +5,5 @@ use Rattle.rule_read.specs.Printed.{tree_tokens}
 use Rattle.rule_read.proofs.tree_printer.+tree.Given as goal
 
 abbrev pub invariant-put_trees-loop-turn : goal.invariant-put_trees-loop-turn
-invariant-put_trees-loop-turn l = tokens l.out.items ≡ tokens l.initial.out.items ++ commas (map tree_tokens (take l.turn l.members))
+invariant-put_trees-loop-turn l = tokens l.out.items ≡ tokens l.initial.out.items ++ commas
+    (map tree_tokens (take l.turn l.members))

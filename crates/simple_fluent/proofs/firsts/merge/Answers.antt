@@ -8,13 +8,16 @@ merge-init c = rw c.in_ok-out.ensures.items (0, merging_start _ _ c.requires.one
 
 pub merge-smaller : goal.merge-smaller
 merge-smaller c =
-    let next : earlier (first_of c.merge.one_left.now) (first_of c.merge.two_left.now) ≡ Some c.in-Some.first =
+    let next : earlier (first_of c.merge.one_left.now) (first_of c.merge.two_left.now)
+    ≡ Some c.in-Some.first =
     rw (← c.first_of.ensures, ← c.first_of-in-merge.ensures) (sym c.in-Some.ensures) in
-    rw (c.rest_firsts-one_left.ensures, c.rest_firsts-two_left.ensures) (merging_fewer _ _ _ _ _ _ _ c.merge.invariant.1 next)
+    rw (c.rest_firsts-one_left.ensures, c.rest_firsts-two_left.ensures) (merging_fewer _ _ _ _ _ _
+    _ c.merge.invariant.1 next)
 
 pub merge-preserved : goal.merge-preserved
 merge-preserved c =
-    let next : earlier (first_of c.merge.one_left.now) (first_of c.merge.two_left.now) ≡ Some c.in-Some.first =
+    let next : earlier (first_of c.merge.one_left.now) (first_of c.merge.two_left.now)
+    ≡ Some c.in-Some.first =
     rw (← c.first_of.ensures, ← c.first_of-in-merge.ensures) (sym c.in-Some.ensures) in
     rw (c.rest_firsts-one_left.ensures, c.rest_firsts-two_left.ensures, c.in_ok-push.ensures.items)
     (c.in-Some.first.at + 1, merging_more _ _ _ _ _ _ _ c.merge.invariant.1 next)

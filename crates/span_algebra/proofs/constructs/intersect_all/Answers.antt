@@ -3,4 +3,5 @@ use Rattle.span_algebra.proofs.Counting.{each_lent}
 use Rattle.span_algebra.proofs.constructs.intersect_all.Goals as goal
 
 pub returns : goal.returns
-returns c = λ t. c.in_ok-out.ensures t ∙ each_lent (λ l. l.now) _ _ t (ap (map (λ l. l.now)) c.as_slice.ensures.value ∙ c.in_ok-lists.ensures)
+returns c = λ t. c.in_ok-out.ensures t ∙ each_lent (λ l. l.now) _ _ t
+    (ap (map (λ l. l.now)) c.as_slice.ensures.value ∙ c.in_ok-lists.ensures)

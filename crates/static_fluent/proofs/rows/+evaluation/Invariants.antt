@@ -7,7 +7,8 @@ use Rattle.static_fluent.proofs.Members.{weight, total}
 use Rattle.static_fluent.proofs.rows.+evaluation.Given as goal
 
 abbrev pub invariant-evaluate_all-loop-expr : goal.invariant-evaluate_all-loop-expr
-invariant-evaluate_all-loop-expr l = (t : ℕ) → map (λ m. covers (spans_in m) t) l.members.items ≡ map (λ expr. expr_holds (told l.cache.rows) expr t) (take l.expr-index l.exprs)
+invariant-evaluate_all-loop-expr l = (t : ℕ) → map (λ m. covers (spans_in m) t) l.members.items
+    ≡ map (λ expr. expr_holds (told l.cache.rows) expr t) (take l.expr-index l.exprs)
 
 abbrev pub decreases-evaluate : goal.decreases-evaluate
 decreases-evaluate l = 2 * weight l.expr.now

@@ -3,4 +3,5 @@ use Rattle.static_fluent.specs.Constructs.{spans_in}
 use Rattle.static_fluent.proofs.rows.lent.Given as goal
 
 abbrev pub invariant-loop-member : goal.invariant-loop-member
-invariant-loop-member l = map (λ list. list.now) l.lists.items ≡ map spans_in (take l.member-index l.members)
+invariant-loop-member l = map (λ list. list.now) l.lists.items
+    ≡ map spans_in (take l.member-index l.members)

@@ -6,4 +6,5 @@ use Rattle.static_fluent.proofs.rows.shared.Goals as goal
 
 pub returns : goal.returns
 returns c = λ t. c.in_ok-out.ensures t
-    ∙ same_all (λ l. covers l t) (λ l. l.now) spans_in _ _ (ap (map (λ l. l.now)) c.as_slice.ensures.value ∙ c.in_ok-lists.ensures)
+    ∙ same_all (λ l. covers l t) (λ l. l.now) spans_in _ _
+    (ap (map (λ l. l.now)) c.as_slice.ensures.value ∙ c.in_ok-lists.ensures)

@@ -6,8 +6,11 @@ use Rattle.static_fluent.proofs.tests.left_over.Goals as goal
 
 pub returns-clause-rows : goal.returns-clause-rows
 returns-clause-rows c =
-    complement_units (λ unit. nat_lt unit 3) c.in_ok-new.field-0 c.args.others ∙ both_true (ap (has_rows 3) c.in_ok-new.ensures.ok ∙ c.requires.first_rows) c.requires.rows
+    complement_units (λ unit. nat_lt unit 3) c.in_ok-new.field-0 c.args.others
+    ∙ both_true (ap (has_rows 3) c.in_ok-new.ensures.ok ∙ c.requires.first_rows) c.requires.rows
 
 pub returns-clause-members : goal.returns-clause-members
 returns-clause-members c =
-    complement_members c.in_ok-new.field-0 c.args.others ∙ both_true (ap has_members c.in_ok-new.ensures.ok ∙ c.requires.first_members) c.requires.members
+    complement_members c.in_ok-new.field-0 c.args.others
+    ∙ both_true (ap has_members c.in_ok-new.ensures.ok ∙ c.requires.first_members)
+    c.requires.members

@@ -5,7 +5,10 @@ use Rattle.strata_check.proofs.layering.first_circle_by_search.Goals as goal
 pub loop-place-preserved : goal.loop-place-preserved
 loop-place-preserved c =
     let rows = c.args.rows.now in
-    let here : Leads rows c.loop-place.place c.loop-place.place → ⊥ = subst (λ b. MatchBool b (Leads rows c.loop-place.place c.loop-place.place) (Leads rows c.loop-place.place c.loop-place.place → ⊥)) c.if-branch.false c.in_ok-leads_to_itself.ensures in
+    let here : Leads rows c.loop-place.place c.loop-place.place
+    → ⊥ = subst (λ b. MatchBool b (Leads rows c.loop-place.place c.loop-place.place)
+    (Leads rows c.loop-place.place c.loop-place.place → ⊥)) c.if-branch.false
+    c.in_ok-leads_to_itself.ensures in
     below_more (λ k. Leads rows k k → ⊥) _ c.loop-place.invariant here
 
 pub unreachable-requires : goal.unreachable-requires

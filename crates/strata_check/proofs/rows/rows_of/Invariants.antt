@@ -4,4 +4,5 @@ use Rattle.strata_check.specs.Rows.{AreRows}
 use Rattle.strata_check.proofs.rows.rows_of.Given as goal
 
 abbrev pub invariant-loop-rule : goal.invariant-loop-rule
-invariant-loop-rule l = AreRows (map plain (take l.rule-index l.rules)) l.known.names.now l.rows.items
+invariant-loop-rule l = AreRows (map plain (take l.rule-index l.rules)) l.known.names.now
+    l.rows.items

@@ -4,4 +4,5 @@ use Rattle.strata_check.specs.Ranks.{rank_at, AreUnder}
 use Rattle.strata_check.proofs.ties.first_tied.Given as goal
 
 abbrev pub invariant-loop-place : goal.invariant-loop-place
-invariant-loop-place l = (earlier : ℕ) → earlier < l.place → AreUnder l.ranks (row_at l.rows earlier) (rank_at l.ranks earlier)
+invariant-loop-place l = (earlier : ℕ) → earlier < l.place
+    → AreUnder l.ranks (row_at l.rows earlier) (rank_at l.ranks earlier)

@@ -4,4 +4,5 @@ use Rattle.strata_check.proofs.walk.walk.Given as goal
 
 abbrev pub invariant-loop-start : goal.invariant-loop-start
 invariant-loop-start l =
-    IsWalking l.graph.names.now l.graph.rows.now l.marks.items [] × ((k : ℕ) → k < l.start → IsNewMark (slice_get l.marks.items k) → ⊥)
+    IsWalking l.graph.names.now l.graph.rows.now l.marks.items [] × ((k : ℕ) → k < l.start
+    → IsNewMark (slice_get l.marks.items k) → ⊥)

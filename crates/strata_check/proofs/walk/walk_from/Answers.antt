@@ -10,7 +10,9 @@ walk-init c =
     let graph = c.args.graph.now in
     let marks = c.args.marks.now.items in (
       subst (HasWalked graph.names.now graph.rows.now marks (set marks c.args.start (Open 0 0)))
-          (sym (reverse_push _ _ _ c.in_ok-push.ensures.items ∙ ap (λ l. c.args.start ∷ reverse l) c.new-trail.ensures.items))
-          (entered graph.names.now graph.rows.now marks [] c.requires.walking c.args.start c.requires.new tt),
+          (sym (reverse_push _ _ _ c.in_ok-push.ensures.items ∙ ap (λ l. c.args.start ∷ reverse l)
+          c.new-trail.ensures.items))
+          (entered graph.names.now graph.rows.now marks [] c.requires.walking c.args.start
+          c.requires.new tt),
       λ n. subst (λ o. IsNewMark o) (set_same marks c.args.start New (Open 0 0) c.requires.new) n,
     )

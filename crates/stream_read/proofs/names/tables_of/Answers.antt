@@ -6,4 +6,5 @@ use Rattle.stream_read.proofs.names.tables_of.Goals as goal
 pub of_words-requires : goal.of_words-requires
 of_words-requires c =
     subst (λ words. is_distinct words ≡ true) (sym c.as_slice.ensures)
-    (distinct_at c.args.domains.now c.loop-domain.domain-index c.domain-item.result c.requires c.loop-domain-test.true c.domain-item.is)
+    (distinct_at c.args.domains.now c.loop-domain.domain-index c.domain-item.result c.requires
+    c.loop-domain-test.true c.domain-item.is)

@@ -8,6 +8,7 @@ loop-count-init c =
     let none : c.new-gathered.result.ignored ≤ 0 = rw fresh (omega arith) in
     record {
       reading = c.reader_of-reader.ensures.reading;
-      whole = begins c.args.program.now c.args.shape c.new-gathered.result _ _ fresh c.reader_of-reader.ensures.all;
+      whole = begins c.args.program.now c.args.shape c.new-gathered.result _ _ fresh
+          c.reader_of-reader.ensures.all;
       counted = none;
     }

@@ -7,6 +7,7 @@ use Rattle.stream_read.proofs.reading.commands.Given as goal
 abbrev pub invariant-loop-count : goal.invariant-loop-count
 invariant-loop-count l = record {
   reading : IsReading l.reader;
-  whole : script_from l.program l.shape l.count l.gathered (left l.reader) ≡ script_of l.program l.shape (records_of l.text);
+  whole : script_from l.program l.shape l.count l.gathered (left l.reader) ≡ script_of l.program
+      l.shape (records_of l.text);
   counted : l.gathered.ignored ≤ l.count;
 }

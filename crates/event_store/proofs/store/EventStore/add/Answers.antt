@@ -1,50 +1,65 @@
 use Rattle.std.proofs.Common.{not, ◌||◌, ◌==◌, Some, IsSome, refl, subst, ap, sym, ◌∙◌}
 use Rattle.std.proofs.lemmas.Result.{on_ok_weaker, on_err_weaker, IfOk-weaker}
 use Rattle.span_algebra.specs.Normal.{has}
-use Rattle.event_store.proofs.Lookups.{kept_found, kept_missing, standing_is, stood_at, written_again, stands_too, stood_still}
+use Rattle.event_store.proofs.Lookups.{kept_found, kept_missing, standing_is, stood_at}
+use Rattle.event_store.proofs.Lookups.{written_again, stands_too, stood_still}
 use Rattle.event_store.proofs.store.EventStore.add.Goals as goal
 
 pub returns-in-Some-clause-changed : goal.returns-in-Some-clause-changed
 returns-in-Some-clause-changed c =
-    let found = standing_is c.args.event c.self.inside.by_event.entries ∙ ap (λ k. k.points) (kept_found c.args.event c.self.inside.by_event.entries c.in-Some.kept.now c.in-Some.ensures.value) in
-    rw (← c.self.view_is) (IfOk-weaker c.add.result _ _ (λ b is. is ∙ ap (λ p. not (has p c.args.at)) (sym found)) c.add.ensures.changed)
+    let found = standing_is c.args.event c.self.inside.by_event.entries
+    ∙ ap (λ k. k.points) (kept_found c.args.event c.self.inside.by_event.entries
+    c.in-Some.kept.now c.in-Some.ensures.value) in
+    rw (← c.self.view_is) (IfOk-weaker c.add.result _ _ (λ b is. is
+    ∙ ap (λ p. not (has p c.args.at)) (sym found)) c.add.ensures.changed)
 
 pub returns-in-Some-clause-standing : goal.returns-in-Some-clause-standing
 returns-in-Some-clause-standing c =
     let old = c.self.inside.by_event.entries in
     let found = kept_found c.args.event old c.in-Some.kept.now c.in-Some.ensures.value in
     rw (← c.self.view_is) (on_ok_weaker c.add.result (λ added.
-    stands_too c.args.event old (c.get_mut.follows.lender c.add.new.self).entries c.add.new.self ((c.get_mut.follows.holds c.add.new.self).3 (subst IsSome c.in-Some.ensures.value refl)).0 c.args.at
-    (λ t. added t ∙ ap (λ k. has k.points t || (t == c.args.at)) (sym found))) c.add.ensures.standing)
+    stands_too c.args.event old (c.get_mut.follows.lender c.add.new.self).entries c.add.new.self
+    ((c.get_mut.follows.holds c.add.new.self).3 (subst IsSome c.in-Some.ensures.value refl)).0
+    c.args.at
+    (λ t. added t ∙ ap (λ k. has k.points t || (t == c.args.at)) (sym found)))
+    c.add.ensures.standing)
 
 pub returns-in-Some-clause-settled : goal.returns-in-Some-clause-settled
 returns-in-Some-clause-settled c =
     let old = c.self.inside.by_event.entries in
     let found = kept_found c.args.event old c.in-Some.kept.now c.in-Some.ensures.value in
     rw (← c.self.view_is) (on_ok_weaker c.add.result (λ same.
-    stood_still c.args.event old (c.get_mut.follows.lender c.add.new.self).entries c.add.new.self ((c.get_mut.follows.holds c.add.new.self).3 (subst IsSome c.in-Some.ensures.value refl)).0
+    stood_still c.args.event old (c.get_mut.follows.lender c.add.new.self).entries c.add.new.self
+    ((c.get_mut.follows.holds c.add.new.self).3 (subst IsSome c.in-Some.ensures.value refl)).0
     (λ t. same t ∙ ap (λ k. stood_at k t) (sym found))) c.add.ensures.settled)
 
 pub returns-in-Some-clause-refused : goal.returns-in-Some-clause-refused
 returns-in-Some-clause-refused c =
     rw (← c.self.view_is) (on_err_weaker c.add.result (λ same.
-    (c.get_mut.follows.holds c.add.new.self).0 ∙ written_again c.args.event c.self.inside.by_event.entries c.add.new.self (ap Some same ∙ c.in-Some.ensures.value)) c.add.ensures.refused)
+    (c.get_mut.follows.holds c.add.new.self).0 ∙ written_again c.args.event
+    c.self.inside.by_event.entries c.add.new.self (ap Some same ∙ c.in-Some.ensures.value))
+    c.add.ensures.refused)
 
 pub returns-clause-changed : goal.returns-clause-changed
 returns-clause-changed c =
     let old = c.self.inside.by_event.entries in
-    rw (← c.self.view_is) (ap (λ p. not (has p c.args.at)) (sym (standing_is c.args.event old ∙ ap (λ k. k.points) (kept_missing c.args.event old c.in_default.ensures.value))))
+    rw (← c.self.view_is) (ap (λ p. not (has p c.args.at)) (sym (standing_is c.args.event old
+    ∙ ap (λ k. k.points) (kept_missing c.args.event old c.in_default.ensures.value))))
 
 pub returns-clause-standing : goal.returns-clause-standing
 returns-clause-standing c =
     let old = c.self.inside.by_event.entries in
     let missing = kept_missing c.args.event old c.in_default.ensures.value in
-    rw (← c.self.view_is) (stands_too c.args.event old c.insert.new.self.entries c.add-2.new.self (rw c.get_mut.follows.holds-at-none at c.in_ok-insert.ensures.updates.0) c.args.at
-    (λ t. c.in_ok-add.ensures.standing t ∙ ap (λ k. has k.points t || (t == c.args.at)) (c.new-kept.ensures ∙ sym missing)))
+    rw (← c.self.view_is) (stands_too c.args.event old c.insert.new.self.entries c.add-2.new.self
+    (rw c.get_mut.follows.holds-at-none at c.in_ok-insert.ensures.updates.0) c.args.at
+    (λ t. c.in_ok-add.ensures.standing t ∙ ap (λ k. has k.points t || (t == c.args.at))
+    (c.new-kept.ensures ∙ sym missing)))
 
 pub returns-clause-settled : goal.returns-clause-settled
 returns-clause-settled c =
     let old = c.self.inside.by_event.entries in
     let missing = kept_missing c.args.event old c.in_default.ensures.value in
-    rw (← c.self.view_is) (stood_still c.args.event old c.insert.new.self.entries c.add-2.new.self (rw c.get_mut.follows.holds-at-none at c.in_ok-insert.ensures.updates.0)
-    (λ t. c.in_ok-add.ensures.settled t ∙ ap (λ k. stood_at k t) (c.new-kept.ensures ∙ sym missing)))
+    rw (← c.self.view_is) (stood_still c.args.event old c.insert.new.self.entries c.add-2.new.self
+    (rw c.get_mut.follows.holds-at-none at c.in_ok-insert.ensures.updates.0)
+    (λ t. c.in_ok-add.ensures.settled t ∙ ap (λ k. stood_at k t) (c.new-kept.ensures
+    ∙ sym missing)))

@@ -5,10 +5,14 @@ use Rattle.event_store.proofs.store.EventStore.settle.Goals as goal
 
 pub returns-clause-standing : goal.returns-clause-standing
 returns-clause-standing c =
-    let walked = map_same_pairs _ settled _ (λ k v b w f' t. search rules) _ _ c.retain.ensures.filtered in
-    rw (← c.self.view_is) (settled_standing c.self.inside.by_event.entries c.retain.new.self.entries walked)
+    let walked = map_same_pairs _ settled _ (λ k v b w f' t. search rules) _ _
+    c.retain.ensures.filtered in
+    rw (← c.self.view_is) (settled_standing c.self.inside.by_event.entries
+    c.retain.new.self.entries walked)
 
 pub returns-clause-settled : goal.returns-clause-settled
 returns-clause-settled c =
-    let walked = map_same_pairs _ settled _ (λ k v b w f' t. search rules) _ _ c.retain.ensures.filtered in
-    rw (← c.self.view_is) (settled_stood c.self.inside.by_event.entries c.retain.new.self.entries walked)
+    let walked = map_same_pairs _ settled _ (λ k v b w f' t. search rules) _ _
+    c.retain.ensures.filtered in
+    rw (← c.self.view_is) (settled_stood c.self.inside.by_event.entries c.retain.new.self.entries
+    walked)

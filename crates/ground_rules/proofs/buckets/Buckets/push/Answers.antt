@@ -11,7 +11,8 @@ returns g c =
     elim c.match-get_mut.branch [
       | in-Some+in_ok-push w ↦ (let h = w.in-Some.ensures.item in
           ap (λ s. map (λ l. l.items) s.lists.items) w.self-inside-is
-          ∙ grown_at (λ l. l.items) lists n c.args.item w.in-Some.list.now w.push.new.self h.3.0 h.1 w.in_ok-push.ensures.items
+          ∙ grown_at (λ l. l.items) lists n c.args.item w.in-Some.list.now w.push.new.self h.3.0
+          h.1 w.in_ok-push.ensures.items
           ∙ with_item)
       | in_default w ↦ ap (λ s. map (λ l. l.items) s.lists.items) w.self-inside-is
           ∙ kept_past (λ l. l.items) lists n _ w.in_default.ensures.item.3

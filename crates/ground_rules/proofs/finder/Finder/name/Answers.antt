@@ -7,6 +7,12 @@ use Rattle.ground_rules.proofs.finder.Finder.name.Goals as goal
 
 pub invariant_of-result : goal.invariant_of-result
 invariant_of-result c =
-    let asked : Asked = record { program = c.args.program.now; word = c.args.word.now; args = [] } in
-    let is : asked ≡ c.noted.result.value = sym (c.noted.ensures ∙ ap₂ (λ p w. record { program = p; word = w; args = [] }) c.of.ensures c.noted_word.ensures) in
-    (subst HasSmall is (sound_small c.args.program.now c.requires), c.begun.ensures ∙ begins c.args.program.now c.args.word.now ∙ ap how_far is)
+    let asked : Asked = record { program = c.args.program.now; word = c.args.word.now; args = [] }
+    in
+    let is : asked ≡ c.noted.result.value =
+    sym (c.noted.ensures ∙ ap₂ (λ p w. record { program = p; word = w; args = [] }) c.of.ensures
+    c.noted_word.ensures) in (
+      subst HasSmall is (sound_small c.args.program.now c.requires),
+      c.begun.ensures
+          ∙ begins c.args.program.now c.args.word.now ∙ ap how_far is,
+    )

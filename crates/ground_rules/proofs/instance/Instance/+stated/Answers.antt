@@ -1,28 +1,36 @@
 use Rattle.std.proofs.Common.{map, sym, ap, ◌∙◌}
 use Rattle.rule_read.specs.Forms.{plain_tree}
 use Rattle.ground_rules.specs.Clauses.{instance_of}
-use Rattle.ground_rules.proofs.StatedExpressions.{stated_of, union_stated, intersect_stated, complement_stated}
+use Rattle.ground_rules.proofs.StatedExpressions.{stated_of, union_stated, intersect_stated}
+use Rattle.ground_rules.proofs.StatedExpressions.{complement_stated}
 use Rattle.ground_rules.proofs.instance.Instance.+stated.Goals as goal
 
 pub stated_tree-returns-in_ok-stated_trees-in-Union :
     goal.stated_tree-returns-in_ok-stated_trees-in-Union
 stated_tree-returns-in_ok-stated_trees-in-Union t c =
     let i = instance_of c.args.self.now in
-    union_stated i c.in_ok-stated_trees-in-Union.field-0 c.in-Union.members (c.in_ok-stated_trees-in-Union.ensures ∙ ap (map (stated_of i)) c.deref.ensures.value)
+    union_stated i c.in_ok-stated_trees-in-Union.field-0 c.in-Union.members
+    (c.in_ok-stated_trees-in-Union.ensures ∙ ap (map (stated_of i)) c.deref.ensures.value)
     ∙ sym (ap (stated_of i) c.in-Union.is)
 
 pub stated_tree-returns-in_ok-stated_trees-in-Intersect :
     goal.stated_tree-returns-in_ok-stated_trees-in-Intersect
 stated_tree-returns-in_ok-stated_trees-in-Intersect t c =
     let i = instance_of c.args.self.now in
-    intersect_stated i c.in_ok-stated_trees-in-Intersect.field-0 c.in-Intersect.members (c.in_ok-stated_trees-in-Intersect.ensures ∙ ap (map (stated_of i)) c.deref-in-Intersect.ensures.value)
+    intersect_stated i c.in_ok-stated_trees-in-Intersect.field-0 c.in-Intersect.members
+    (c.in_ok-stated_trees-in-Intersect.ensures ∙ ap (map (stated_of i))
+    c.deref-in-Intersect.ensures.value)
     ∙ sym (ap (stated_of i) c.in-Intersect.is)
 
 pub stated_tree-returns-in_ok-stated_trees-in-Complement :
     goal.stated_tree-returns-in_ok-stated_trees-in-Complement
 stated_tree-returns-in_ok-stated_trees-in-Complement t c =
     let i = instance_of c.args.self.now in
-    let first = ap plain_tree c.in_ok-first-in-Complement.ensures.ok ∙ c.in_ok-stated_tree-in-Complement.ensures ∙ ap (stated_of i) c.deref-in-Complement.ensures in
-    let others = c.in_ok-stated_trees-in-Complement.ensures ∙ ap (map (stated_of i)) c.deref-in-Complement-2.ensures.value in
-    complement_stated i c.in_ok-first-in-Complement.first c.in-Complement.first c.in_ok-stated_trees-in-Complement.field-0 c.in-Complement.others first others
+    let first = ap plain_tree c.in_ok-first-in-Complement.ensures.ok
+    ∙ c.in_ok-stated_tree-in-Complement.ensures ∙ ap (stated_of i) c.deref-in-Complement.ensures
+    in
+    let others = c.in_ok-stated_trees-in-Complement.ensures ∙ ap (map (stated_of i))
+    c.deref-in-Complement-2.ensures.value in
+    complement_stated i c.in_ok-first-in-Complement.first c.in-Complement.first
+    c.in_ok-stated_trees-in-Complement.field-0 c.in-Complement.others first others
     ∙ sym (ap (stated_of i) c.in-Complement.is)

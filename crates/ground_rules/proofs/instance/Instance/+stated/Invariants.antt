@@ -5,4 +5,5 @@ use Rattle.ground_rules.proofs.StatedExpressions.{stated_of}
 use Rattle.ground_rules.proofs.instance.Instance.+stated.Given as goal
 
 abbrev pub invariant-stated_trees-loop-tree : goal.invariant-stated_trees-loop-tree
-invariant-stated_trees-loop-tree l = map plain_tree l.stated.items ≡ map (stated_of (instance_of l.self)) (take l.tree-index l.trees)
+invariant-stated_trees-loop-tree l = map plain_tree l.stated.items
+    ≡ map (stated_of (instance_of l.self)) (take l.tree-index l.trees)

@@ -4,4 +4,5 @@ use Rattle.ground_rules.specs.Clauses.{instance_of}
 use Rattle.ground_rules.proofs.instance.Instance.conditions.Given as goal
 
 abbrev pub invariant-loop-body : goal.invariant-loop-body
-invariant-loop-body l = l.conds.items ≡ filter_map (ground_condition (instance_of l.self)) (take l.body-index l.bodies)
+invariant-loop-body l = l.conds.items ≡ filter_map (ground_condition (instance_of l.self))
+    (take l.body-index l.bodies)

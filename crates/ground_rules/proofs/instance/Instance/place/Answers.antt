@@ -1,4 +1,5 @@
-use Rattle.std.proofs.Common.{◌<◌, ◌≤◌, length, slice_get, option_map, Some, ap, ap₂, ◌∙◌, sym, subst}
+use Rattle.std.proofs.Common.{◌<◌, ◌≤◌, length, slice_get, option_map, Some, ap, ap₂, ◌∙◌, sym}
+use Rattle.std.proofs.Common.{subst}
 use Rattle.std.proofs.lemmas.List.{length_push}
 use Rattle.std.proofs.lemmas.Iterator.{YieldsList-from_slice, YieldsList-from_zip}
 use Rattle.std.proofs.lemmas.Iterator.Consumers.{YieldsList-turn, YieldsList-end}
@@ -11,33 +12,57 @@ use Rattle.ground_rules.proofs.instance.Instance.place.Goals as goal
 pub returns-then-terms-as_slice : goal.returns-then-terms-as_slice
 returns-then-terms-as_slice c =
     let self = c.args.self.now in
-    too_few self.clause.now.known.now.domains.now (instance_of self) c.args.name.now c.args.terms.now
+    too_few self.clause.now.known.now.domains.now (instance_of self) c.args.name.now
+    c.args.terms.now
     (subst (λ l. length c.args.terms.now < length l) c.as_slice.ensures c.if-terms-as_slice.true)
 
 pub returns-in_err-place : goal.returns-in_err-place
 returns-in_err-place c =
     let self = c.args.self.now in
     let domains = self.clause.now.known.now.domains.now in
-    let at = YieldsList-turn (YieldsList-from_zip {s = c.into_iter-term-iterator.result} (YieldsList-from_slice c.args.terms.now cc) (YieldsList-from_slice c.args.name.now.args cc)) c.loop-term.yielded c.loop-term.term-iterator c.loop-term.yielded_by c.next.result c.next.new.self (c.in-Some.term, c.in-Some.domain) c.in-Some.is c.next.ensures.steps in
+    let at = YieldsList-turn (YieldsList-from_zip {s = c.into_iter-term-iterator.result}
+    (YieldsList-from_slice c.args.terms.now cc) (YieldsList-from_slice c.args.name.now.args cc))
+    c.loop-term.yielded c.loop-term.term-iterator c.loop-term.yielded_by c.next.result
+    c.next.new.self (c.in-Some.term, c.in-Some.domain) c.in-Some.is c.next.ensures.steps in
     let is = c.next_place.ensures
-    ∙ ap₂ (λ size number. option_map capped (ranked (Some c.loop-term.place) (size, number))) (c.entity_count-size.ensures ∙ ap (λ l. entity_count (slice_get l c.in-Some.domain.now)) c.known.ensures.domains) c.term.ensures in
-    let next = one_more_ranked domains (instance_of self) c.args.name.now c.args.terms.now (length c.loop-term.yielded) _ (c.in-Some.term.now, c.in-Some.domain.now) c.loop-term.place c.next_place.result
-    at (length_push c.loop-term.yielded (c.in-Some.term, c.in-Some.domain)) is c.loop-term.invariant in
+    ∙ ap₂ (λ size number. option_map capped (ranked (Some c.loop-term.place) (size, number)))
+    (c.entity_count-size.ensures ∙ ap (λ l. entity_count (slice_get l c.in-Some.domain.now))
+    c.known.ensures.domains) c.term.ensures in
+    let next = one_more_ranked domains (instance_of self) c.args.name.now c.args.terms.now
+    (length c.loop-term.yielded) _ (c.in-Some.term.now, c.in-Some.domain.now) c.loop-term.place
+    c.next_place.result
+    at (length_push c.loop-term.yielded (c.in-Some.term, c.in-Some.domain)) is
+    c.loop-term.invariant in
     c.from_residual.ensures
-    ∙ none_ranked domains (instance_of self) c.args.name.now c.args.terms.now _ (subst (λ l. length l ≤ length c.args.terms.now) c.as_slice.ensures c.if-terms-as_slice.false) (sym c.in_err-place.was ∙ next)
+    ∙ none_ranked domains (instance_of self) c.args.name.now c.args.terms.now _
+    (subst (λ l. length l ≤ length c.args.terms.now) c.as_slice.ensures
+    c.if-terms-as_slice.false) (sym c.in_err-place.was ∙ next)
 
 pub returns : goal.returns
 returns c =
     let self = c.args.self.now in
-    let end = YieldsList-end (YieldsList-from_zip {s = c.into_iter-term-iterator.result} (YieldsList-from_slice c.args.terms.now cc) (YieldsList-from_slice c.args.name.now.args cc)) c.loop-term.yielded c.loop-term.term-iterator c.loop-term.yielded_by c.next.result c.next.new.self c.in-None.is c.next.ensures.steps in
-    all_ranked self.clause.now.known.now.domains.now (instance_of self) c.args.name.now c.args.terms.now (length c.loop-term.yielded) c.loop-term.place
-    (subst (λ l. length l ≤ length c.args.terms.now) c.as_slice.ensures c.if-terms-as_slice.false) end.1 c.loop-term.invariant
+    let end = YieldsList-end (YieldsList-from_zip {s = c.into_iter-term-iterator.result}
+    (YieldsList-from_slice c.args.terms.now cc) (YieldsList-from_slice c.args.name.now.args cc))
+    c.loop-term.yielded c.loop-term.term-iterator c.loop-term.yielded_by c.next.result
+    c.next.new.self c.in-None.is c.next.ensures.steps in
+    all_ranked self.clause.now.known.now.domains.now (instance_of self) c.args.name.now
+    c.args.terms.now (length c.loop-term.yielded) c.loop-term.place
+    (subst (λ l. length l ≤ length c.args.terms.now) c.as_slice.ensures c.if-terms-as_slice.false)
+    end.1 c.loop-term.invariant
 
 pub loop-term-preserved : goal.loop-term-preserved
 loop-term-preserved c =
     let self = c.args.self.now in
-    let at = YieldsList-turn (YieldsList-from_zip {s = c.into_iter-term-iterator.result} (YieldsList-from_slice c.args.terms.now cc) (YieldsList-from_slice c.args.name.now.args cc)) c.loop-term.yielded c.loop-term.term-iterator c.loop-term.yielded_by c.next.result c.next.new.self (c.in-Some.term, c.in-Some.domain) c.in-Some.is c.next.ensures.steps in
+    let at = YieldsList-turn (YieldsList-from_zip {s = c.into_iter-term-iterator.result}
+    (YieldsList-from_slice c.args.terms.now cc) (YieldsList-from_slice c.args.name.now.args cc))
+    c.loop-term.yielded c.loop-term.term-iterator c.loop-term.yielded_by c.next.result
+    c.next.new.self (c.in-Some.term, c.in-Some.domain) c.in-Some.is c.next.ensures.steps in
     let is = c.next_place.ensures
-    ∙ ap₂ (λ size number. option_map capped (ranked (Some c.loop-term.place) (size, number))) (c.entity_count-size.ensures ∙ ap (λ l. entity_count (slice_get l c.in-Some.domain.now)) c.known.ensures.domains) c.term.ensures in
-    one_more_ranked self.clause.now.known.now.domains.now (instance_of self) c.args.name.now c.args.terms.now (length c.loop-term.yielded) _ (c.in-Some.term.now, c.in-Some.domain.now) c.loop-term.place (Some c.in_ok-place.place)
-    at (length_push c.loop-term.yielded (c.in-Some.term, c.in-Some.domain)) (sym c.in_ok-place.was ∙ is) c.loop-term.invariant
+    ∙ ap₂ (λ size number. option_map capped (ranked (Some c.loop-term.place) (size, number)))
+    (c.entity_count-size.ensures ∙ ap (λ l. entity_count (slice_get l c.in-Some.domain.now))
+    c.known.ensures.domains) c.term.ensures in
+    one_more_ranked self.clause.now.known.now.domains.now (instance_of self) c.args.name.now
+    c.args.terms.now (length c.loop-term.yielded) _ (c.in-Some.term.now, c.in-Some.domain.now)
+    c.loop-term.place (Some c.in_ok-place.place)
+    at (length_push c.loop-term.yielded (c.in-Some.term, c.in-Some.domain)) (sym c.in_ok-place.was
+    ∙ is) c.loop-term.invariant

@@ -6,5 +6,6 @@ use Rattle.ground_rules.proofs.instance.Instance.stated_conditions.Goals as goal
 
 pub loop-body-preserved : goal.loop-body-preserved
 loop-body-preserved c =
-    one_more_kept (stated_condition (instance_of c.args.self.now)) c.args.bodies.now c.loop-body.body-index _ c.body-item.result [] _ _
+    one_more_kept (stated_condition (instance_of c.args.self.now)) c.args.bodies.now
+    c.loop-body.body-index _ c.body-item.result [] _ _
     (c.loop-body-test.true, c.body-item.is) refl c.in_ok-add_stated.ensures c.loop-body.invariant

@@ -11,28 +11,36 @@ use Rattle.ground_rules.specs.Origins.{unit_at, origins_of, gathered}
 use Rattle.ground_rules.proofs.ByOrigin.{are_few, are_origins}
 use Rattle.ground_rules.proofs.Caps.{capped_small}
 use Rattle.ground_rules.proofs.NumberedNames.{declarations, units_few}
-use Rattle.ground_rules.proofs.ListedInstances.{few_names, few_assignments, few_rules, all_are_rules}
+use Rattle.ground_rules.proofs.ListedInstances.{few_names, few_assignments, few_rules}
+use Rattle.ground_rules.proofs.ListedInstances.{all_are_rules}
 use Rattle.ground_rules.proofs.instances.Instances.new.Goals as goal
 
 pub clauses_of-requires : goal.clauses_of-requires
 clauses_of-requires c =
-    rw (c.requires.domains, c.requires.names) (declarations c.args.checked.now c.requires.checked (few_names c.args.checked.now c.requires.limits))
+    rw (c.requires.domains, c.requires.names) (declarations c.args.checked.now c.requires.checked
+    (few_names c.args.checked.now c.requires.limits))
 
 pub invariant_of-result : goal.invariant_of-result
 invariant_of-result c =
     let checked = c.args.checked.now in
     let found = map clause_of c.in_ok-clauses.clauses.items in
     let these : found ≡ clauses (plain_checked checked) =
-    c.in_ok-clauses.ensures ∙ ap₂ (λ d n. clauses_of d n (map plain c.as_slice.result.now)) c.requires.domains c.requires.names
-    ∙ ap (λ rules. clauses_of checked.domains (numbered_names (plain_checked checked)) (map plain rules)) c.as_slice.ensures in
+    c.in_ok-clauses.ensures ∙ ap₂ (λ d n. clauses_of d n (map plain c.as_slice.result.now))
+    c.requires.domains c.requires.names
+    ∙ ap (λ rules. clauses_of checked.domains (numbered_names (plain_checked checked))
+    (map plain rules)) c.as_slice.ensures in
     let few = few_assignments checked c.requires.limits in
     let rules = few_rules checked c.requires.limits in
     record {
-      are_rules = ap (list_all (λ clause. is_rule clause.form)) these ∙ all_are_rules checked c.requires.limits c.requires.checked;
+      are_rules = ap (list_all (λ clause. is_rule clause.form)) these
+          ∙ all_are_rules checked c.requires.limits c.requires.checked;
       are_few = are_few found (subst (λ cs. assignment_count cs ≤ 1048576) (sym these) few);
-      are_origins = (are_origins found c.unit_count-units.result c.in_ok-origins.origins (c.in_ok-origins.ensures ∙ ap (λ cs. gathered (unit_at (map clause_of cs)) c.unit_count-units.result (origins_of (map clause_of cs))) c.as_slice-4.ensures.value)).1;
+      are_origins = (are_origins found c.unit_count-units.result c.in_ok-origins.origins
+          (c.in_ok-origins.ensures ∙ ap (λ cs. gathered (unit_at (map clause_of cs))
+          c.unit_count-units.result (origins_of (map clause_of cs))) c.as_slice-4.ensures.value)).1;
       rules_are =
-          c.in_ok-rules.ensures ∙ ap (λ cs. capped (rule_count (map clause_of cs))) c.as_slice-5.ensures.value
+          c.in_ok-rules.ensures ∙ ap (λ cs. capped (rule_count (map clause_of cs)))
+          c.as_slice-5.ensures.value
           ∙ capped_small (rule_count found) (omega (arith, ap rule_count these, rules));
     }
 
@@ -41,13 +49,19 @@ returns c =
     let checked = c.args.checked.now in
     let found = map clause_of c.in_ok-clauses.clauses.items in
     let these : found ≡ clauses (plain_checked checked) =
-    c.in_ok-clauses.ensures ∙ ap₂ (λ d n. clauses_of d n (map plain c.as_slice.result.now)) c.requires.domains c.requires.names
-    ∙ ap (λ rules. clauses_of checked.domains (numbered_names (plain_checked checked)) (map plain rules)) c.as_slice.ensures in
+    c.in_ok-clauses.ensures ∙ ap₂ (λ d n. clauses_of d n (map plain c.as_slice.result.now))
+    c.requires.domains c.requires.names
+    ∙ ap (λ rules. clauses_of checked.domains (numbered_names (plain_checked checked))
+    (map plain rules)) c.as_slice.ensures in
     let few = units_few checked c.requires.checked (few_names checked c.requires.limits) in
     record {
       clauses = these;
       units =
-          (are_origins found c.unit_count-units.result c.in_ok-origins.origins (c.in_ok-origins.ensures ∙ ap (λ cs. gathered (unit_at (map clause_of cs)) c.unit_count-units.result (origins_of (map clause_of cs))) c.as_slice-4.ensures.value)).0
-          ∙ c.unit_count-units.ensures ∙ ap₂ (λ d n. capped (unit_count d n)) c.as_slice-2.ensures c.as_slice-3.ensures
+          (are_origins found c.unit_count-units.result c.in_ok-origins.origins
+          (c.in_ok-origins.ensures ∙ ap (λ cs. gathered (unit_at (map clause_of cs))
+          c.unit_count-units.result (origins_of (map clause_of cs)))
+          c.as_slice-4.ensures.value)).0
+          ∙ c.unit_count-units.ensures ∙ ap₂ (λ d n. capped (unit_count d n)) c.as_slice-2.ensures
+          c.as_slice-3.ensures
           ∙ capped_small (unit_count checked.domains checked.names) (omega (arith, few));
     }

@@ -6,8 +6,10 @@ use Rattle.rule_read.proofs.lexer.Lexer.statement.Given as goal
 
 abbrev pub invariant-loop-token : goal.invariant-loop-token
 invariant-loop-token l = record {
-  same : sentences (pieces l.initial.self.line l.initial.self.rest.now) ≡ lead l.line (tokens l.found.items) (sentences (pieces l.self.line l.self.rest.now));
-  fine : first_bad (pieces l.initial.self.line l.initial.self.rest.now) ≡ first_bad (pieces l.self.line l.self.rest.now);
+  same : sentences (pieces l.initial.self.line l.initial.self.rest.now)
+      ≡ lead l.line (tokens l.found.items) (sentences (pieces l.self.line l.self.rest.now));
+  fine : first_bad (pieces l.initial.self.line l.initial.self.rest.now)
+      ≡ first_bad (pieces l.self.line l.self.rest.now);
   shorter : length l.self.rest.now ≤ length l.initial.self.rest.now;
 }
 

@@ -17,7 +17,9 @@ abbrev pub decreases-trees : goal.decreases-trees
 decreases-trees l = 5 * l.depth + 1
 
 abbrev pub invariant-trees-loop-turn : goal.invariant-trees-loop-turn
-invariant-trees-loop-turn l = with_front (map plain_tree l.members.items) (list_at (expression_at l.depth) (l.count - l.turn) (tokens l.self.rest.now)) ≡ list_at (expression_at l.depth) l.count (tokens l.initial.self.rest.now)
+invariant-trees-loop-turn l = with_front (map plain_tree l.members.items)
+    (list_at (expression_at l.depth) (l.count - l.turn) (tokens l.self.rest.now))
+    ≡ list_at (expression_at l.depth) l.count (tokens l.initial.self.rest.now)
 
 abbrev pub decreases-enclosed_trees : goal.decreases-enclosed_trees
 decreases-enclosed_trees l = 5 * l.depth + 3

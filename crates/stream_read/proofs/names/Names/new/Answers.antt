@@ -6,7 +6,8 @@ use Rattle.ground_rules.proofs.SmallNumbers.{sound_small}
 use Rattle.stream_read.proofs.names.Names.new.Goals as goal
 
 pub of_names-requires : goal.of_names-requires
-of_names-requires c = subst (λ names. is_distinct (name_words names) ≡ true) (sym c.as_slice.ensures) (distinct_names c.args.program.now c.requires)
+of_names-requires c = subst (λ names. is_distinct (name_words names) ≡ true)
+    (sym c.as_slice.ensures) (distinct_names c.args.program.now c.requires)
 
 pub invariant_of-result : goal.invariant_of-result
 invariant_of-result c = record {

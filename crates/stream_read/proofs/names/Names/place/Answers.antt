@@ -13,5 +13,6 @@ returns-in_err-word c =
     let count = ap length c.as_slice-domain-items.ensures in
     let none : l.fields ≡ [] = c.in_err-word.ensures in
     c.from_residual.ensures
-    ∙ sym (too_few domains l.place (drop l.domain-index args) (omega (arith, left, count, c.loop-domain-test.true)))
+    ∙ sym (too_few domains l.place (drop l.domain-index args)
+    (omega (arith, left, count, c.loop-domain-test.true)))
     ∙ ap (place_from domains l.place (drop l.domain-index args)) (sym none) ∙ l.invariant

@@ -10,6 +10,9 @@ loop-name-preserved c =
     let same = length-map c.args.names.now (λ name. name.word) in
     let inside : i < length (name_words c.args.names.now) = omega (arith, same) in
     let at : c.as_bytes.result.now ≡ get_or (name_words c.args.names.now) i c.as_bytes.result.now =
-    c.as_bytes.ensures.value ∙ c.as_str.ensures ∙ ap (λ name. name.word) c.name-item.is ∙ sym (get_or-map (λ name. name.word) c.args.names.now i c.name-item.result c.as_bytes.result.now c.loop-name-test.true) in
-    put_distinct (name_words c.args.names.now) i c.as_bytes.result.now inside at c.loop-name.table c.insert.new.self c.in_ok-insert.field-0
+    c.as_bytes.ensures.value ∙ c.as_str.ensures ∙ ap (λ name. name.word) c.name-item.is
+    ∙ sym (get_or-map (λ name. name.word) c.args.names.now i c.name-item.result
+    c.as_bytes.result.now c.loop-name-test.true) in
+    put_distinct (name_words c.args.names.now) i c.as_bytes.result.now inside at c.loop-name.table
+    c.insert.new.self c.in_ok-insert.field-0
     c.loop-name.invariant c.in_ok-insert.ensures.added c.in_ok-insert.ensures.words c.requires
