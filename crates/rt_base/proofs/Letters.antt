@@ -9,7 +9,7 @@ use Rattle.std.proofs.lemmas.List.Sums.{AllPass-from_list_all}
 use Rattle.std.proofs.lemmas.List.Elements.{All-weaker}
 use Rattle.rt_base.specs.Kinds.{is_letter}
 
-letter_low : (b : ℕ) → is_letter b ≡ true → b < 128
+pub letter_low : (b : ℕ) → is_letter b ≡ true → b < 128
 letter_low b h = grind (arith, nat_tests)
 
 all_low : (bs : List ℕ) → list_all is_letter bs ≡ true → All (λ b. b < 128) bs

@@ -1,4 +1,4 @@
--- What a contract sees of a counter of steps.
+-- Public contracts speak by this: what they see of a counter of steps.
 use Rattle.std.specs.Prelude.{ℕ}
 
 -- the steps that are counted, and how many parts are out

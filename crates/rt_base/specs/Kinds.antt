@@ -1,5 +1,5 @@
--- The kinds of words of a description: at most 64 letters, digits and underscores, told apart by
--- the first.
+-- Public contracts speak by this: the kinds of words of a description, which are at most 64
+-- letters, digits and underscores, told apart by the first.
 use Rattle.std.specs.Prelude.{ℕ, Bool, false, not, ◌&&◌, ◌||◌, ◌==◌, nat_le, List, [], ◌∷◌, length}
 use Rattle.std.specs.Prelude.{codes}
 use Rattle.std.specs.Char.{is_ascii_lowercase, is_ascii_uppercase, is_ascii_digit}

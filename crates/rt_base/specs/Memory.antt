@@ -1,4 +1,4 @@
--- Inputs and a sink in memory.
+-- Public contracts speak by this: inputs and a sink in memory.
 use Rattle.std.specs.Prelude.{ℕ, ◌+◌, ◌-◌, ◌^◌, min, Bool, not, ◌&&◌, ◌||◌, ◌==◌, if◌then◌else◌}
 use Rattle.std.specs.Prelude.{List, [], ◌∷◌, length, Option, Some, None, is_none, Vec}
 use Rattle.std.specs.List.{list_any}

@@ -1,5 +1,5 @@
--- What a tally comes to, from what the tallies before its last turn came to. Its age is above
--- theirs, so no tally leads back to itself.
+-- For private functions alone: what a tally comes to, from what the tallies before its last turn
+-- came to. Its age is above theirs, so no tally leads back to itself.
 use Rattle.std.specs.Prelude.{ℕ, ◌+◌, ◌-◌}
 use Rattle.rt_base.specs.Counted.{Counted}
 use Rattle.rt_base.specs.declared.steps.Turn.{Turn}

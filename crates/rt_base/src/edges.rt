@@ -8,11 +8,71 @@ use std::io::{Read, Seek, SeekFrom};
 use std::marker::Model;
 use std::rt::Files;
 
+// A name that is kept without memory: it is short enough.
+#[derive(Clone, Copy, PartialEq, Eq)]
+struct ShortName {
+    bytes: [u8; 255],
+    len: usize,
+}
+
+impl ShortName {
+    // The name, if it is short enough.
+    fn of(name: &str) -> Option<ShortName> {
+        let name = name.as_bytes();
+        let mut bytes = [0; 255];
+        if name.len() > bytes.len() {
+            return None;
+        }
+        bytes[..name.len()].copy_from_slice(name);
+        Some(ShortName {
+            bytes,
+            len: name.len(),
+        })
+    }
+}
+
+// A file that is open, its name where that is short, and the place of its next byte.
+#[derive(Drop)]
+struct OpenFile<F> {
+    name: Option<ShortName>,
+    at: u64,
+    file: F,
+}
+
+impl<F: Read + Seek> OpenFile<F> {
+    // Goes to a place.
+    fn seek(&mut self, at: u64) -> Option<()> {
+        if self.at != at {
+            let _at = self.file.seek(SeekFrom::Start(at)).ok()?;
+            self.at = at;
+        }
+        Some(())
+    }
+
+    // Reads on. A reader may leave anything behind the bytes that it read, so they are copied from
+    // a buffer of its own. That lies on the stack, so that no memory can be refused.
+    fn read(&mut self, into: &mut [u8]) -> Option<usize>
+        ensures some { IfSome result (λ n. FillsFront n into.old into.new) }
+        ensures none { IfNone result (into.new ≡ into.old) }
+    {
+        let mut buffer = [0; 65536];
+        let most = into.len().min(buffer.len());
+        let count = self.file.read(&mut buffer[..most]).ok()?;
+        into[..count].copy_from_slice(&buffer[..count]);
+        self.at = self.at.saturating_add(count as u64);
+        Some(count)
+    }
+}
+
 /// Real files, by their paths. What they hold is not told. One counter, which is all that contracts
 /// see of it, is the count of faults of every name.
+///
+/// The file that was read last stays open, unless its name is longer than 255 bytes: to read on in
+/// it takes one call of the system. A read gives 64 KiB at most.
 #[derive(Drop)]
 pub struct FileInputs<R: Files + Clone + Drop> {
     rt: R,
+    last: Option<OpenFile<R::File>>,
     faults: u64,
 }
 
@@ -29,21 +89,49 @@ impl<R: Files + Clone + Drop> FileInputs<R> {
     pub fn new(rt: R) -> FileInputs<R>
         ensures { result ≡ 0 }
     {
-        FileInputs { rt, faults: 0 }
+        FileInputs {
+            rt,
+            last: None,
+            faults: 0,
+        }
     }
 }
 
-// A reader may leave anything behind the bytes that it read, so they are copied.
-fn read_file<R: Files>(rt: &R, name: &str, at: u64, into: &mut [u8]) -> Option<usize>
+// The last file, if it has this name, or the file of this name, opened anew.
+fn open<R: Files>(
+    rt: &R,
+    last: Option<OpenFile<R::File>>,
+    name: &str,
+) -> Option<OpenFile<R::File>> {
+    let short = ShortName::of(name);
+    match last {
+        Some(last) if short.is_some() && last.name == short => Some(last),
+        _last => {
+            let file = fs::open(rt, name).ok()?;
+            Some(OpenFile {
+                name: short,
+                at: 0,
+                file,
+            })
+        }
+    }
+}
+
+// Reads bytes of a file from a place on, and keeps it open for those that come after them.
+fn read_file<R: Files>(
+    rt: &R,
+    last: &mut Option<OpenFile<R::File>>,
+    name: &str,
+    at: u64,
+    into: &mut [u8],
+) -> Option<usize>
     ensures some { IfSome result (λ n. FillsFront n into.old into.new) }
     ensures none { IfNone result (into.new ≡ into.old) }
 {
-    let mut buffer = [0; 4096];
-    let mut file = fs::open(rt, name).ok()?;
-    let _at = file.seek(SeekFrom::Start(at)).ok()?;
-    let most = into.len().min(buffer.len());
-    let count = file.read(&mut buffer[..most]).ok()?;
-    into[..count].copy_from_slice(&buffer[..count]);
+    let mut file = open(rt, last.take(), name)?;
+    file.seek(at)?;
+    let count = file.read(into)?;
+    *last = Some(file);
     Some(count)
 }
 
@@ -53,7 +141,7 @@ impl<R: Files + Clone + Drop> Inputs for FileInputs<R> {
     ghost faults = { λ faults name. faults };
 
     fn read_at(&mut self, name: &str, at: u64, into: &mut [u8]) -> Result<usize, Failed> {
-        match read_file(&self.rt, name, at, into) {
+        match read_file(&self.rt, &mut self.last, name, at, into) {
             Some(count) => Ok(count),
             None => {
                 self.faults = self.faults.saturating_add(1);

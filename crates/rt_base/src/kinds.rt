@@ -5,18 +5,21 @@ ghost use Rattle.std.specs.List.{list_all, list_any};
 ghost use Rattle.std.specs.Str.{bytes_eq};
 ghost use Rattle.rt_base.specs.Kinds.{is_letter, is_name, is_reserved, first_is};
 
+// A letter, a digit or an underscore.
 fn is_letter(byte: u8) -> bool
     ensures { result ≡ is_letter byte }
 {
     byte.is_ascii_lowercase() || byte.is_ascii_uppercase() || byte.is_ascii_digit() || byte == b'_'
 }
 
+// Nothing but letters, digits and underscores.
 fn are_letters(word: &[u8]) -> bool
     ensures { result ≡ list_all is_letter word.now }
 {
     word.iter().all(|byte| is_letter(*byte))
 }
 
+// A word with a lower-case letter first.
 fn begins_lowercase(word: &[u8]) -> bool
     ensures { result ≡ first_is is_ascii_lowercase word.now }
 {
@@ -52,6 +55,7 @@ const RESERVED: [&str; 22] = [
     "expires",
 ];
 
+// The word is one of these.
 fn stands_among(word: &[u8], others: &[&str]) -> bool
     ensures { result ≡ list_any (λ other. bytes_eq other.now word.now) others.now }
 {

@@ -85,6 +85,7 @@ impl Steps<Brand> {
 }
 
 impl<L: Ledger> Steps<L> {
+    // A counter that has counted nothing.
     fn new() -> Steps<L>
         ensures { result ≡ record { count = 0; out = 0 } }
     {
@@ -129,6 +130,7 @@ impl<L: Ledger> Steps<L> {
         mem::replace(&mut self.tally, Turn::First.noted())
     }
 
+    // The tally of a counter that is used up.
     fn into_tally(self) -> Snapshot<Tally>
         ensures { result.value.0 ≡ self }
     {

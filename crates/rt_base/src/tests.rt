@@ -6,30 +6,34 @@ use std::alloc::Global;
 use std::fs;
 use std::test::Fail;
 
-fn two_files(alloc: Global) -> Result<MemoryInputs, Fail> {
+// Files of these names and bytes.
+fn files_of(alloc: Global, rows: &[(&str, &[u8])]) -> Result<Vec<(Word, Vec<u8>)>, Fail> {
     let mut files = Vec::new(alloc);
-    files.push((Word::new(alloc, "a")?, Vec::from_slice(alloc, b"first")?))?;
-    files.push((Word::new(alloc, "a")?, Vec::from_slice(alloc, b"second")?))?;
-    Ok(MemoryInputs::new(files, Vec::from_slice(alloc, &[2])?))
+    for (name, bytes) in rows {
+        let name = Word::new(alloc, name)?;
+        files.push((name, Vec::from_slice(alloc, bytes)?))?;
+    }
+    Ok(files)
 }
 
 #[test]
 fn inputs_tell_the_first_file_and_fail_where_chosen(rt: HostRuntime) -> Result<(), Fail> {
-    let mut inputs = two_files(rt.alloc())?;
+    let alloc = rt.alloc();
+    let files = files_of(alloc, &[("a", b"first"), ("a", b"second")])?;
+    let mut inputs = MemoryInputs::new(files, Vec::from_slice(alloc, &[2])?);
     let mut buffer = [b'.'; 4];
 
     // Call, name, offset: how many bytes, and the buffer after it.
     let calls = [
-        ("a", 0, Some(4), b"firs"),
-        ("a", 4, Some(1), b"tirs"),
-        ("a", 0, None, b"tirs"),
-        ("a", 5, Some(0), b"tirs"),
-        ("b", 0, None, b"tirs"),
+        ("a", 0, Some(4), *b"firs"),
+        ("a", 4, Some(1), *b"tirs"),
+        ("a", 0, None, *b"tirs"),
+        ("a", 5, Some(0), *b"tirs"),
+        ("b", 0, None, *b"tirs"),
     ];
     for (name, at, count, after) in calls {
         let read = inputs.read_at(name, at, &mut buffer).ok();
-        assert_eq!(rt; read, count, "{name} at {at}");
-        assert_eq!(rt; buffer.as_slice(), after.as_slice(), "{name} at {at}");
+        assert_eq!(rt; (read, buffer), (count, after), "{name} at {at}");
     }
     Ok(())
 }
@@ -52,33 +56,79 @@ fn a_sink_takes_pieces_until_its_room_is_full(rt: HostRuntime) -> Result<(), Fai
     Ok(())
 }
 
-#[test]
-fn the_real_edges_read_and_write(rt: HostRuntime) -> Result<(), Fail> {
-    let path = "rt_base_edges.txt";
-    fs::write(&rt, path, b"edge")?;
-    let mut inputs = FileInputs::new(rt.clone()?);
-    let mut buffer = [0; 8];
-    assert_eq!(rt; inputs.read_at(path, 1, &mut buffer).ok(), Some(3));
-    assert_eq!(rt; &buffer[..3], b"dge".as_slice());
-    assert_eq!(rt;
-        inputs.read_at("no_such_file.txt", 0, &mut buffer).ok(),
-        None
-    );
-    fs::remove_file(&rt, path)?;
-    let mut out = StdSink::new(rt.clone()?);
-    assert_eq!(rt; out.write(b"").ok(), Some(0));
-    assert_eq!(rt; out.write(b"\n").ok(), Some(1));
+// Two files: a short one, and one of more than a piece, whose bytes count up to 250 and begin anew.
+const NAMES: [&str; 2] = ["rt_base_short.txt", "rt_base_long.txt"];
+
+fn write_files(rt: &HostRuntime) -> Result<(), Fail> {
+    let mut bytes = Vec::new(rt.alloc());
+    for place in 0..70000u32 {
+        bytes.push((place % 251) as u8)?;
+    }
+    fs::write(rt, NAMES[0], b"edge")?;
+    fs::write(rt, NAMES[1], bytes.as_slice())?;
+    Ok(())
+}
+
+fn remove_files(rt: &HostRuntime) -> Result<(), Fail> {
+    for name in NAMES {
+        fs::remove_file(rt, name)?;
+    }
     Ok(())
 }
 
 #[test]
-fn words_lists_and_steps_are_made(rt: HostRuntime) -> Result<(), Fail> {
-    let alloc = rt.alloc();
-    assert_eq!(rt; Word::new(alloc, "up")?.as_str(), "up");
-    assert_eq!(rt; Raw::new(alloc, &[255])?.as_slice(), [255].as_slice());
+fn real_files_are_read_at_any_place(rt: HostRuntime) -> Result<(), Fail> {
+    write_files(&rt)?;
+    let mut inputs = FileInputs::new(rt.clone()?);
+    let mut buffer = [0; 70000];
+
+    // Name, place: how many bytes, and the first of them.
+    let [short, long] = NAMES;
+    let calls = [
+        (short, 1, Some((3, b'd'))),
+        (long, 0, Some((65536, 0))),
+        (long, 65536, Some((4464, 25))),
+        ("rt_base_none.txt", 0, None),
+        (long, 252, Some((65536, 1))),
+        (short, 3, Some((1, b'e'))),
+    ];
+    for (name, place, wanted) in calls {
+        let read = inputs.read_at(name, place, &mut buffer).ok();
+        let told = read.map(|count| (count, buffer[0]));
+        assert_eq!(rt; told, wanted, "{name} at {place}");
+    }
+    remove_files(&rt)
+}
+
+#[test]
+fn the_real_output_takes_bytes(rt: HostRuntime) -> Result<(), Fail> {
+    let mut out = StdSink::new(rt.clone()?);
+    for (piece, taken) in [(b"".as_slice(), Some(0)), (b"\n".as_slice(), Some(1))] {
+        assert_eq!(rt; out.write(piece).ok(), taken, "{piece:?}");
+    }
+    Ok(())
+}
+
+// A word, bytes and a list, as they are told.
+fn made(alloc: Global) -> Result<String, Fail> {
+    let word = Word::new(alloc, "up")?;
+    let raw = Raw::new(alloc, &[255])?;
     let list = List::of(Vec::from_slice(alloc, &[1, 2])?);
-    assert_eq!(rt; list.as_slice().len(), 2);
-    assert_eq!(rt; list.into_vec().as_slice(), [1, 2].as_slice());
+    let count = list.as_slice().len();
+    let (text, bytes) = (word.as_str(), raw.as_slice());
+    let items = list.into_vec();
+    Ok(format!(in alloc; "{text} {bytes:?} {count} {items:?}")?)
+}
+
+#[test]
+fn words_and_lists_are_made(rt: HostRuntime) -> Result<(), Fail> {
+    let made = made(rt.alloc())?;
+    assert_eq!(rt; made.as_str(), "up [255] 2 [1, 2]");
+    Ok(())
+}
+
+#[test]
+fn steps_are_counted() {
     NoGate.pass(Place::Published { number: 0 });
     let mut whole = Steps::first();
     let mut part = whole.part();
@@ -86,7 +136,6 @@ fn words_lists_and_steps_are_made(rt: HostRuntime) -> Result<(), Fail> {
     whole.tick();
     whole.add(part);
     whole.end();
-    Ok(())
 }
 
 #[test]
