@@ -1,5 +1,5 @@
 -- Inertia, a point at a time.
-use Rattle.std.proofs.Common.{◌≡◌, ℕ, zero, suc, ◌+◌, ◌-◌, ◌<◌, List, Option, ◌∙◌, ap, arith}
+use Rattle.std.proofs.Common.{◌≡◌, ℕ, suc, ◌+◌, ◌-◌, ◌<◌, List, Option, ◌∙◌, ap, arith}
 use Rattle.ground_types.specs.Inertia.{next_value, value_after, value_at}
 
 pub value_opens : (opening : Option ℕ) (initiated terminated : ℕ → List ℕ) (w : ℕ)

@@ -1,9 +1,11 @@
 -- Which numbers a list contains.
 use Rattle.std.proofs.Common.{◌≡◌, ◌⊎◌, inl, inr, ℕ, ◌<◌, Bool, true, false, ◌&&◌, ◌||◌, eqb, List}
-use Rattle.std.proofs.Common.{[], ◌∷◌, ◌++◌, refl, sym, ◌∙◌, arith, subst}
+use Rattle.std.proofs.Common.{[], ◌∷◌, ◌++◌, filter, refl, sym, ◌∙◌, ap, arith, subst}
 use Rattle.std.specs.List.{list_all}
+use Rattle.std.proofs.lemmas.Bool.{and_parts, or_left, or_right, or_cases}
 use Rattle.std.proofs.lemmas.Bool.Decides.{nat_tests}
 use Rattle.std.proofs.lemmas.List.Folds.{list_any-append}
+use Rattle.std.proofs.lemmas.Map.Views.{any-filter_same}
 use Rattle.ground_types.specs.Members.{contains}
 
 pub contains_hit : (x : ℕ) (rest : List ℕ) (t : ℕ) → x ≡ t → contains (x ∷ rest) t ≡ true
@@ -14,25 +16,12 @@ pub contains_miss : (x : ℕ) (rest : List ℕ) (t : ℕ) → (t < x) ⊎ (x < t
 contains_miss x rest t (inl low) = grind (arith, nat_tests)
 contains_miss x rest t (inr high) = grind (arith, nat_tests)
 
+-- the two parts of std's `and_parts`, each alone
 pub and_left : (a b : Bool) → (a && b) ≡ true → a ≡ true
-and_left true b is = refl
-and_left false b is = is
+and_left a b is = (and_parts a b is).0
 
 pub and_right : (a b : Bool) → (a && b) ≡ true → b ≡ true
-and_right true b is = is
-and_right false b is = cc
-
-or_left : (a b : Bool) → a ≡ true → (a || b) ≡ true
-or_left true b is = refl
-or_left false b is = cc
-
-or_right : (a b : Bool) → b ≡ true → (a || b) ≡ true
-or_right true b is = refl
-or_right false b is = is
-
-or_either : (a b : Bool) → (a || b) ≡ true → (a ≡ true) ⊎ (b ≡ true)
-or_either true b is = inl refl
-or_either false b is = inr is
+and_right a b is = (and_parts a b is).1
 
 or_neither : (a b : Bool) → (a || b) ≡ false → (a ≡ false) × (b ≡ false)
 or_neither true b is = cc
@@ -50,7 +39,7 @@ contains_right xs ys t is = contains_append xs ys t ∙ or_right (contains xs t)
 
 pub contains_either : (xs ys : List ℕ) (t : ℕ) → contains (xs ++ ys) t ≡ true
     → (contains xs t ≡ true) ⊎ (contains ys t ≡ true)
-contains_either xs ys t is = or_either (contains xs t) (contains ys t)
+contains_either xs ys t is = or_cases (contains xs t) (contains ys t)
     (sym (contains_append xs ys t) ∙ is)
 
 pub contains_neither : (xs ys : List ℕ) (t : ℕ) → contains (xs ++ ys) t ≡ false
@@ -66,7 +55,7 @@ first_by x rest t (inr is) = inr is
 -- a number of a list is the first or one of the rest
 pub first_or_rest : (x : ℕ) (rest : List ℕ) (t : ℕ) → contains (x ∷ rest) t ≡ true → (x ≡ t)
     ⊎ (contains rest t ≡ true)
-first_or_rest x rest t is = first_by x rest t (or_either (eqb x t) (contains rest t) is)
+first_or_rest x rest t is = first_by x rest t (or_cases (eqb x t) (contains rest t) is)
 
 each_by : (test : ℕ → Bool) (x : ℕ) (rest : List ℕ) (t : ℕ) → list_all test (x ∷ rest) ≡ true
     → (x ≡ t) ⊎ (contains rest t ≡ true) →
@@ -81,3 +70,10 @@ pub each_of_all : (test : ℕ → Bool) (xs : List ℕ) (t : ℕ) → list_all t
 each_of_all test [] t all is = cc
 each_of_all test (x ∷ rest) t all is = each_by test x rest t all (first_or_rest x rest t is)
     (λ later. each_of_all test rest t (and_right (test x) (list_all test rest) all) later)
+
+-- a filter leaves the numbers that pass
+pub contains_filter : (test : ℕ → Bool) (xs : List ℕ) (t : ℕ) → contains (filter test xs) t
+    ≡ (test t && contains xs t)
+contains_filter test xs t =
+    any-filter_same (λ y. eqb y t) test (test t) (λ k is. (let same : k ≡ t =
+    grind (arith, nat_tests) in ap test same)) xs

@@ -7,7 +7,7 @@ use Rattle.std.specs.List.{range_with_len}
 use Rattle.std.proofs.lemmas.Bool.Decides.{nat_tests}
 use Rattle.ground_types.specs.Members.{contains}
 use Rattle.ground_types.proofs.Members.{contains_hit, contains_miss}
-use Rattle.ground_types.proofs.Rows.{equal_from_bounds, le_or_above}
+use Rattle.rt_base.proofs.Numbers.{equal_from_bounds, le_or_above}
 use Rattle.ground_types.specs.Rows.{points, ArePointsFrom, ArePoints}
 
 from_less : (floor less : ℕ) (xs : List ℕ) → less ≤ floor → ArePointsFrom floor xs

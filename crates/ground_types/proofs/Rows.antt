@@ -3,7 +3,9 @@
 use Rattle.std.proofs.Common.{◌≡◌, ◌⊎◌, inl, inr, ℕ, zero, suc, ◌+◌, ◌-◌, ◌<◌, ◌≤◌, Bool, true}
 use Rattle.std.proofs.Common.{false, cond, ◌&&◌, ◌||◌, leb, ltb, eqb, List, [], ◌∷◌, ◌++◌, refl}
 use Rattle.std.proofs.Common.{sym, ◌∙◌, ap, arith, subst}
+use Rattle.std.proofs.Math.Bool.{or_assoc, or-false}
 use Rattle.std.proofs.lemmas.Bool.Decides.{nat_tests}
+use Rattle.rt_base.proofs.Numbers.{le_or_above, equal_from_bounds}
 use Rattle.ground_types.specs.Rows.{with_point, runs, row, IsRisingFrom, covers, IsRowByPoints}
 
 pub covers_hit : (s : ℕ × ℕ) (rest : List (ℕ × ℕ)) (t : ℕ) → s.0 < t → t ≤ s.1
@@ -48,9 +50,6 @@ same_until floor s u xs ys left right same starts low =
     let both : true ≡ false = sym hit ∙ sym (same (s.1 + 1)) ∙ none in
     cc
 
-pub le_or_above : (m n : ℕ) → (m ≤ n) ⊎ (n < m)
-le_or_above m n = grind (arith, nat_tests)
-
 same_rest : (s : ℕ × ℕ) (xs ys : List (ℕ × ℕ)) → IsRisingFrom (s.1 + 1) xs
     → IsRisingFrom (s.1 + 1) ys →
     ((t : ℕ) → covers (s ∷ xs) t ≡ covers (s ∷ ys) t) → (t : ℕ) → (t ≤ s.1 + 1) ⊎ (s.1 + 1 < t)
@@ -60,9 +59,6 @@ same_rest s xs ys left right same t (inl low) = covers_floor (s.1 + 1) xs t left
 same_rest s xs ys left right same t (inr high) =
     let above : s.1 < t = omega arith in
     sym (covers_miss s xs t (inr above)) ∙ same t ∙ covers_miss s ys t (inr above)
-
-pub equal_from_bounds : (m n : ℕ) → (m < n → ⊥) → (n < m → ⊥) → m ≡ n
-equal_from_bounds m n a b = grind arith
 
 pair_eq : (a b c d : ℕ) → a ≡ c → b ≡ d → (let p : ℕ × ℕ = (a, b) in p ≡ (c, d))
 pair_eq a b c d e f = cc
@@ -140,15 +136,11 @@ covers_above top [] t below le = refl
 covers_above top (s ∷ rest) t below le = covers_miss s rest t (inr (omega (arith, below.0)))
     ∙ covers_above top rest t below.1 le
 
-or_assoc : (a b c : Bool) → (a || (b || c)) ≡ ((a || b) || c)
-or_assoc true b c = refl
-or_assoc false b c = refl
-
 pub covers_append : (xs ys : List (ℕ × ℕ)) (t : ℕ) → covers (xs ++ ys) t
     ≡ (covers xs t || covers ys t)
 covers_append [] ys t = refl
-covers_append (s ∷ rest) ys t = rw (covers_append rest ys t) (or_assoc (ltb s.0 t && leb t s.1)
-    (covers rest t) (covers ys t))
+covers_append (s ∷ rest) ys t = rw (covers_append rest ys t) (sym (or_assoc (ltb s.0 t && leb t s.1)
+    (covers rest t) (covers ys t)))
 
 -- what one more point does
 record IsWithPoint (floor a : ℕ) (old new : List (ℕ × ℕ)) : Type 0 where
@@ -158,10 +150,6 @@ record IsWithPoint (floor a : ℕ) (old new : List (ℕ × ℕ)) : Type 0 where
 
 one_more : (t a : ℕ) → (ltb a t && leb t (a + 1)) ≡ eqb t (a + 1)
 one_more t a = grind (arith, nat_tests)
-
-or_false : (b : Bool) → (b || false) ≡ b
-or_false true = refl
-or_false false = refl
 
 longer : (s0 s1 t a : ℕ) → s0 < s1 → s1 ≡ a → (ltb s0 t && leb t (a + 1))
     ≡ ((ltb s0 t && leb t s1) || eqb t (a + 1))
@@ -175,17 +163,18 @@ with_point_joined floor a s true is rising up =
     record {
       rising = (rising.0, omega (arith, rising.1), tt);
       up_to = (omega arith, tt);
-      each = λ t. or_false _ ∙ longer s.0 s.1 t a rising.1 ends
-          ∙ ap (λ (b : Bool). b || eqb t (a + 1)) (sym (or_false (ltb s.0 t && leb t s.1)));
+      each = λ t. or-false _ ∙ longer s.0 s.1 t a rising.1 ends
+          ∙ ap (λ (b : Bool). b || eqb t (a + 1)) (sym (or-false (ltb s.0 t && leb t s.1)));
     }
 with_point_joined floor a s false is rising up =
     let ends : s.1 < a = grind (arith, nat_tests, up.0) in
     record {
       rising = (rising.0, rising.1, (omega arith, omega arith, tt));
       up_to = (omega (arith, up.0), (omega arith, tt));
-      each = λ t. or_assoc (ltb s.0 t && leb t s.1) (ltb a t && leb t (a + 1)) false ∙ or_false _
+      each = λ t. sym (or_assoc (ltb s.0 t && leb t s.1) (ltb a t && leb t (a + 1)) false)
+          ∙ or-false _
           ∙ ap (λ (b : Bool). (ltb s.0 t && leb t s.1) || b) (one_more t a)
-          ∙ ap (λ (b : Bool). b || eqb t (a + 1)) (sym (or_false (ltb s.0 t && leb t s.1)));
+          ∙ ap (λ (b : Bool). b || eqb t (a + 1)) (sym (or-false (ltb s.0 t && leb t s.1)));
     }
 
 with_point_is : (floor a : ℕ) (xs : List (ℕ × ℕ)) → floor ≤ a → IsRisingFrom floor xs → IsUpTo a xs
@@ -194,7 +183,7 @@ with_point_is floor a [] low rising up =
     record {
       rising = (low, omega arith, tt);
       up_to = (omega arith, tt);
-      each = λ t. or_false _
+      each = λ t. or-false _
           ∙ one_more t a;
     }
 with_point_is floor a (s ∷ []) low rising up = with_point_joined floor a s (eqb s.1 a) refl rising
@@ -207,7 +196,7 @@ with_point_is floor a (s ∷ u ∷ rest) low rising up =
       rising = (rising.0, rising.1, inner.rising);
       up_to = (omega (arith, up.0), inner.up_to);
       each = λ t. ap (λ (b : Bool). (ltb s.0 t && leb t s.1) || b) (inner.each t)
-          ∙ or_assoc (ltb s.0 t && leb t s.1) (covers (u ∷ rest) t) (eqb t (a + 1));
+          ∙ sym (or_assoc (ltb s.0 t && leb t s.1) (covers (u ∷ rest) t) (eqb t (a + 1)));
     }
 
 pub record AreRuns (test : ℕ → Bool) (w n : ℕ) (spans : List (ℕ × ℕ)) : Type 0 where
@@ -215,8 +204,9 @@ pub record AreRuns (test : ℕ → Bool) (w n : ℕ) (spans : List (ℕ × ℕ))
   pub up_to : IsUpTo (w + n) spans
   pub each : (t : ℕ) → covers spans t ≡ (ltb w t && leb t (w + n) && test t)
 
-none_there : (w t : ℕ) (b : Bool) → (ltb w t && leb t (w + 0) && b) ≡ false
-none_there w t b = grind (arith, nat_tests)
+-- no point lies after w and up to it
+none_after : (w t : ℕ) (b : Bool) → false ≡ (ltb w t && leb t (w + 0) && b)
+none_after w t b = grind (arith, nat_tests)
 
 last_true : (w n t : ℕ) (b : Bool) → (t ≡ w + suc n → b ≡ true) →
     ((ltb w t && leb t (w + n) && b) || eqb t (w + n + 1)) ≡ (ltb w t && leb t (w + suc n) && b)
@@ -248,7 +238,7 @@ runs_more test w n xs false is old =
     }
 
 pub runs_are : (test : ℕ → Bool) (w n : ℕ) → AreRuns test w n (runs test w n)
-runs_are test w zero = record { rising = tt; up_to = tt; each = λ t. sym (none_there w t (test t)) }
+runs_are test w zero = record { rising = tt; up_to = tt; each = λ t. none_after w t (test t) }
 runs_are test w (suc n) = runs_more test w n (runs test w n) (test (w + suc n)) refl
     (runs_are test w n)
 

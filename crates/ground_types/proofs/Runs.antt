@@ -4,7 +4,8 @@ use Rattle.std.proofs.Common.{◌||◌, leb, ltb, List, [], ◌∷◌, refl, sym
 use Rattle.std.proofs.lemmas.Bool.Decides.{nat_tests}
 use Rattle.ground_types.specs.Rows.{row, covers, IsRisingFrom, IsRun, IsSpanOf, IsRow}
 use Rattle.ground_types.specs.Rows.{IsRowByPoints}
-use Rattle.ground_types.proofs.Rows.{covers_hit, covers_miss, covers_floor, equal_from_bounds}
+use Rattle.rt_base.proofs.Numbers.{equal_from_bounds}
+use Rattle.ground_types.proofs.Rows.{covers_hit, covers_miss, covers_floor}
 use Rattle.ground_types.proofs.Rows.{rising_unique, AreRuns, runs_are}
 
 -- what is known of one of the spans of a rising list

@@ -1,4 +1,5 @@
--- Small runs, computed: each equation holds by computation alone.
+-- Public contracts speak by this: sample programs, and small runs of them, computed: each equation
+-- holds by computation alone.
 use Rattle.std.specs.Prelude.{◌≡◌, ℕ, true, false, List, [], ◌∷◌, ◌++◌, codes, replicate, Some}
 use Rattle.std.specs.Prelude.{None, refl}
 use Rattle.std.proofs.Common.{lit≤}

@@ -1,4 +1,5 @@
--- *History*, *Standing*, *Reply* and *Legal history*: what was told and what was answered.
+-- Public contracts speak by this: *History*, *Standing*, *Reply* and *Legal history*, what was told
+-- and what was answered.
 use Rattle.std.specs.Prelude.{◌≡◌, ◌≤◌, ℕ, zero, suc, nat_le, Bool, true, false, not, ◌&&◌, ◌==◌}
 use Rattle.std.specs.Prelude.{if◌then◌else◌, List, [], ◌∷◌, ◌++◌, reverse, count_by, find, Option}
 use Rattle.std.specs.Prelude.{Some}

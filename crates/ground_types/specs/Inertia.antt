@@ -1,4 +1,5 @@
--- *Next value* and *Simple fluent*: the law of inertia of RTEC, point by point.
+-- Public contracts speak by this: *Next value* and *Simple fluent*, the law of inertia of RTEC,
+-- point by point.
 use Rattle.std.specs.Prelude.{ℕ, zero, suc, ◌+◌, ◌-◌, min, Bool, if◌then◌else◌, List, [], ◌∷◌, fold}
 use Rattle.std.specs.Prelude.{Option, Some, None}
 use Rattle.ground_types.specs.Members.{contains}

@@ -1,6 +1,7 @@
 pub mod Windows
 pub mod Truth
 pub mod Members
+pub mod Names
 pub mod Inertia
 pub mod Recognition
 pub mod Rows

@@ -1,6 +1,6 @@
--- The definitions of truth, fluents and events said of one table, with no layer in them. A program
--- whose layers are in order has exactly one such table. It is said of all points; those outside the
--- window follow from the same rules and are never read.
+-- Public contracts speak by this: the definitions of truth, fluents and events said of one table,
+-- with no layer in them. A program whose layers are in order has exactly one such table. It is said
+-- of all points; those outside the window follow from the same rules and are never read.
 use Rattle.std.specs.Prelude.{◌≡◌, ℕ, ◌<◌, nat_lt, Bool, true, not, ◌&&◌, List, [], ◌∷◌, ◌++◌}
 use Rattle.std.specs.Prelude.{flat_map, length, Option}
 use Rattle.std.specs.List.{list_all}

@@ -1,4 +1,4 @@
--- Lists of numbers.
+-- Public contracts speak by this: lists of numbers.
 use Rattle.std.specs.Prelude.{ℕ, Bool, ◌==◌, List}
 use Rattle.std.specs.List.{list_any}
 

@@ -1,5 +1,5 @@
--- *Events of a query* and *Publication of a history*: what is published at a seal, a function of
--- the program and the history alone.
+-- Public contracts speak by this: *Events of a query* and *Publication of a history*, what is
+-- published at a seal, a function of the program and the history alone.
 use Rattle.std.specs.Prelude.{◌≡◌, ◌<◌, ℕ, zero, suc, ◌+◌, List, map, flat_map, length, slice_get}
 use Rattle.std.specs.Prelude.{Option, None, Some}
 use Rattle.std.specs.List.{range_with_len, enumerate_from}

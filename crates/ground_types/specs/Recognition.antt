@@ -1,4 +1,5 @@
--- *Static fluent and derived event* and *Recognition*: the table of one window, layer after layer.
+-- Public contracts speak by this: *Static fluent and derived event* and *Recognition*, the table of
+-- one window, layer after layer.
 use Rattle.std.specs.Prelude.{ℕ, nat_lt, nat_le, Bool, false, ◌&&◌, ◌==◌, if◌then◌else◌, List, []}
 use Rattle.std.specs.Prelude.{map, filter, fold, slice_get, option_and_then, Option, Some, None}
 use Rattle.std.specs.List.{list_any}

@@ -1,5 +1,5 @@
--- *Rows*: the rising list of maximal runs of a fluent-value, and the rising list of points of a
--- derived event. The span (a, b] is the pair of a and b.
+-- Public contracts speak by this: *Rows*, the rising list of maximal runs of a fluent-value, and
+-- the rising list of points of a derived event. The span (a, b] is the pair of a and b.
 use Rattle.std.specs.Prelude.{◌≡◌, ◌⊎◌, ℕ, zero, suc, ◌+◌, ◌-◌, ◌<◌, ◌≤◌, nat_lt, nat_le, Bool}
 use Rattle.std.specs.Prelude.{true, false, ◌&&◌, ◌==◌, ◌↔◌, if◌then◌else◌, List, [], ◌∷◌, filter}
 use Rattle.std.specs.List.{list_any, range_with_len}

@@ -1,5 +1,5 @@
--- What makes a program sound: every number in it means something, words and order are as declared,
--- and the layers are in order.
+-- Public contracts speak by this: what makes a program sound, every number in it means something,
+-- words and order are as declared, and the layers are in order.
 use Rattle.std.specs.Prelude.{◌≡◌, ◌≤◌, ℕ, ◌+◌, nat_lt, Bool, true, false, not, ◌&&◌, ◌==◌}
 use Rattle.std.specs.Prelude.{if◌then◌else◌, List, [], ◌∷◌, ◌++◌, map, flat_map, length, sum_by}
 use Rattle.std.specs.Prelude.{slice_get, Option, Some, None}

@@ -1,8 +1,9 @@
--- *Touched points*, and the count of evaluations: at which points a body has to be looked at for a
--- query.
-use Rattle.std.specs.Prelude.{ℕ, zero, suc, nat_lt, Bool, true, false, not, ◌&&◌, ◌||◌, List, []}
+-- Public contracts speak by this: *Touched points*, and the count of evaluations, at which points a
+-- body has to be looked at for a query.
+use Rattle.std.specs.Prelude.{ℕ, zero, suc, nat_lt, Bool, true, ◌&&◌, ◌||◌, List, []}
 use Rattle.std.specs.Prelude.{◌++◌, length, sum_by}
 use Rattle.std.specs.List.{list_any}
+pub use Rattle.rt_base.specs.Truths.{differs}
 use Rattle.ground_types.specs.Windows.{left, right}
 use Rattle.ground_types.specs.Truth.{Table, happens, condition_holds}
 use Rattle.ground_types.specs.Recognition.{kind_of}
@@ -13,10 +14,6 @@ use Rattle.ground_types.specs.declared.program.Rule.{Rule}
 use Rattle.ground_types.specs.declared.program.UnitKind.{UnitKind}
 use Rattle.ground_types.specs.declared.program.UnitKind.TheVariants.{Simple, Static, Derived}
 use Rattle.ground_types.specs.declared.program.Program.{Program}
-
-abbrev pub differs : Bool → Bool → Bool
-differs true b = not b
-differs false b = b
 
 -- the trigger or a further condition has another truth at the point in the two tables
 abbrev pub is_changed : Table → Table → Rule → ℕ → Bool

@@ -1,4 +1,4 @@
--- *Truth at a point*: what is true at one point, read off a table.
+-- Public contracts speak by this: *Truth at a point*, what is true at one point, read off a table.
 use Rattle.std.specs.Prelude.{ℕ, ◌+◌, Bool, true, false, not, ◌&&◌, ◌||◌, ◌==◌, if◌then◌else◌}
 use Rattle.std.specs.Prelude.{Option, Some, None}
 use Rattle.std.specs.List.{list_all}

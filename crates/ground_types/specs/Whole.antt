@@ -1,4 +1,5 @@
--- *Meaning without windows*: what a history means over all points after the first border.
+-- Public contracts speak by this: *Meaning without windows*, what a history means over all points
+-- after the first border.
 use Rattle.std.specs.Prelude.{ℕ, nat_lt, Bool, false, ◌&&◌, ◌==◌, List, find, reverse}
 use Rattle.ground_types.specs.Truth.{Table}
 use Rattle.ground_types.specs.Recognition.{all_layers, kind_of}

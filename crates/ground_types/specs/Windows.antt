@@ -1,4 +1,5 @@
--- *Windows*: the window (Q - WM, Q] of RTEC, numbered by query from 0 on.
+-- Public contracts speak by this: *Windows*, the window (Q - WM, Q] of RTEC, numbered by query from
+-- 0 on.
 use Rattle.std.specs.Prelude.{ℕ, ◌+◌, ◌*◌, ◌≤◌, ◌<◌}
 use Rattle.ground_types.specs.declared.plan.Plan.{Plan}
 

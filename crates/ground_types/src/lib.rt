@@ -7,6 +7,7 @@
 
 mod entries;
 mod laws;
+mod named;
 mod plan;
 mod program;
 
@@ -15,6 +16,7 @@ pub use laws::{
     inertia_law, meaning_is_unique, points_are_unique, points_law, recognition_is_meaning,
     row_by_points_law, row_law, rows_are_unique, samples_are_sound,
 };
+pub use named::{entity_word, is_input, name_of, value_count};
 pub use plan::Plan;
 pub use program::{
     Cond, Domain, Expr, Name, NameKind, Opening, Program, Rule, Trigger, Unit, UnitKind, What,
