@@ -9,7 +9,8 @@ use Rattle.span_algebra.specs.declared.cursor.Cursor.{Cursor}
 use Rattle.span_algebra.specs.declared.cursor.Side.{Side}
 use Rattle.span_algebra.specs.declared.cursor.Side.TheVariants.{Wanted, Barred}
 use Rattle.span_algebra.specs.declared.walk.Test.TheVariants.{SomeAndNone, Exactly}
-use Rattle.span_algebra.specs.Normal.{covers, exactly_one}
+use Rattle.rt_base.specs.Truths.{differs}
+use Rattle.span_algebra.specs.Normal.{covers}
 use Rattle.span_algebra.specs.Walk.{count_at, count_on, answer_of, one_on, counted_on}
 
 module _ {X : Type 0} (f : X → List Span) (t : ℕ) where
@@ -74,12 +75,14 @@ module _ {X : Type 0} (f : X → List Span) (t : ℕ) where
   complement_is xs true wanted barred a c = rw (← some_counted xs) (grind (arith, nat_tests, a, c))
   complement_is xs false wanted barred a c = grind (arith, nat_tests, a)
 
-pub one_is : (a b : Bool) (wanted barred : ℕ) → wanted ≡ 0 + one_on Wanted a Wanted + one_on Wanted
-    b Wanted → answer_of (Exactly 1) wanted barred ≡ exactly_one a b
-one_is true true wanted barred is = grind (arith, nat_tests, is)
-one_is true false wanted barred is = grind (arith, nat_tests, is)
-one_is false true wanted barred is = grind (arith, nat_tests, is)
-one_is false false wanted barred is = grind (arith, nat_tests, is)
+-- just one of two has a point
+pub one_is : (a b : Bool) → answer_of (Exactly 1) (one_on Wanted a Wanted + one_on Wanted b Wanted)
+    0
+    ≡ differs a b
+one_is true true = refl
+one_is true false = refl
+one_is false true = refl
+one_is false false = refl
 
 -- the same of lists that are lent
 pub some_lent : {X : Type 0} (f : X → List Span) (xs : List X) (ys : List (List Span)) (t : ℕ)

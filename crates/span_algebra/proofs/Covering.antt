@@ -9,7 +9,8 @@ use Rattle.std.specs.List.Sorted.{IsPartitionPoint}
 use Rattle.std.specs.Prelude.{MatchOption}
 use Rattle.span_algebra.specs.Normal.{IsNormal, IsNormalFrom, covers}
 use Rattle.span_algebra.specs.declared.spans.Span.{Span}
-use Rattle.span_algebra.proofs.Numbers.{le_or_above, ltb_true, ltb_false, equal_from_bounds}
+use Rattle.std.proofs.lemmas.Bool.{ltb-true, ltb-false}
+use Rattle.rt_base.proofs.Numbers.{le_or_above, equal_from_bounds}
 
 -- the first span has the point, or has no say
 pub covers_hit : (s : Span) (rest : List Span) (t : ℕ) → s.after < t → t ≤ s.until
@@ -144,11 +145,11 @@ pub covers_found : (xs : List Span) (i t : ℕ) (found : Option (Bor Span)) (tol
     MatchOption found (told ≡ false) (λ s. told ≡ ltb s.now.after t) → told ≡ covers xs t
 covers_found xs i t None told normal point past is =
     is ∙ sym (covers_past xs t (record { after = 0; until = 0 }) (λ k less.
-    ltb_true _ _ (point.0 k _ (omega arith) (omega arith))))
+    ltb-true _ _ (point.0 k _ (omega arith) (omega arith))))
 covers_found xs i t (Some s) told normal point there is =
     let at : covers xs t ≡ ltb (get_or xs i s.now).after t =
-    covers_at 0 xs i t s.now normal there.0 (λ k less. ltb_true _ _ (point.0 k s.now (omega arith)
-    less)) (ltb_false _ _ (point.1 i s.now (omega arith) there.0)) in
+    covers_at 0 xs i t s.now normal there.0 (λ k less. ltb-true _ _ (point.0 k s.now (omega arith)
+    less)) (ltb-false _ _ (point.1 i s.now (omega arith) there.0)) in
     is ∙ ap (λ (y : Span). ltb y.after t) (there.1 s.now) ∙ sym at
 
 -- two normal lists with the same points begin alike

@@ -8,7 +8,7 @@ use Rattle.std.specs.Prelude.{is_some}
 use Rattle.span_algebra.specs.declared.spans.Span.{Span}
 use Rattle.span_algebra.specs.Normal.{IsNormalFrom, covers}
 use Rattle.span_algebra.specs.Walk.{begun_after, closed_at}
-use Rattle.span_algebra.proofs.Numbers.{le_or_above}
+use Rattle.rt_base.proofs.Numbers.{le_or_above}
 use Rattle.span_algebra.proofs.Covering.{IsBelow, below_more, below_push, normal_push, covers_above}
 use Rattle.span_algebra.proofs.Covering.{covers_floor, covers_append}
 

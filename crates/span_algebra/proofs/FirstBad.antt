@@ -3,7 +3,7 @@ use Rattle.std.proofs.Common.{◌≡◌, ℕ, zero, suc, ◌+◌, ◌-◌, ◌<�
 use Rattle.std.proofs.Common.{take, refl, arith, subst}
 use Rattle.span_algebra.specs.Normal.{IsNormal, IsNormalFrom, IsRising, IsRisingFrom, IsFirstBad}
 use Rattle.span_algebra.specs.declared.spans.Span.{Span}
-use Rattle.span_algebra.proofs.Numbers.{equal_from_bounds}
+use Rattle.rt_base.proofs.Numbers.{equal_from_bounds}
 
 -- what holds of a list holds of its fronts
 abbrev pub IsOfFronts : {X : Type 0} → (List X → Type 0) → Type 0

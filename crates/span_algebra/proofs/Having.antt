@@ -1,14 +1,15 @@
 -- The points of rising lists.
-use Rattle.std.proofs.Common.{◌≡◌, ◌≢◌, ◌⊎◌, inl, inr, ℕ, zero, suc, ◌+◌, ◌<◌, ◌≤◌, Bool, true}
-use Rattle.std.proofs.Common.{false, ◌||◌, eqb, List, [], ◌∷◌, length, get_or, refl, sym, ◌∙◌}
+use Rattle.std.proofs.Common.{◌≡◌, ◌≢◌, ◌⊎◌, inl, inr, ℕ, zero, suc, ◌+◌, ◌<◌, ◌≤◌, true}
+use Rattle.std.proofs.Common.{false, eqb, List, [], ◌∷◌, length, get_or, refl, sym, ◌∙◌}
 use Rattle.std.proofs.Common.{arith, subst, Result, Ok, Err}
+use Rattle.std.proofs.Math.Bool.{or-true}
 use Rattle.std.proofs.lemmas.Bool.Decides.{nat_tests}
 use Rattle.std.proofs.lemmas.List.Sorted.{searched}
 use Rattle.std.specs.List.Sorted.{IsBinarySearchResult}
 use Rattle.std.specs.Ordering.{nat_cmp}
 use Rattle.std.specs.Prelude.{MatchResult, is_ok}
 use Rattle.span_algebra.specs.Normal.{IsRising, IsRisingFrom, has}
-use Rattle.span_algebra.proofs.Numbers.{le_or_above, equal_from_bounds}
+use Rattle.rt_base.proofs.Numbers.{le_or_above, equal_from_bounds}
 
 pub has_hit : (p : ℕ) (rest : List ℕ) (t : ℕ) → p ≡ t → has (p ∷ rest) t ≡ true
 has_hit p rest t is = grind (arith, nat_tests)
@@ -44,15 +45,11 @@ points_rise floor (p ∷ rest) rising (suc i) zero le lt = absurd (omega arith)
 points_rise floor (p ∷ rest) rising (suc i) (suc j) le lt = points_rise (p + 1) rest rising.1 i j
     (omega arith) (omega arith)
 
-or_true : (b : Bool) → (b || true) ≡ true
-or_true true = refl
-or_true false = refl
-
 -- a point is there exactly where some place has it
 pub has_at : (xs : List ℕ) (k t : ℕ) → k < length xs → get_or xs k 0 ≡ t → has xs t ≡ true
 has_at [] k t lt is = absurd (omega arith)
 has_at (p ∷ rest) zero t lt is = has_hit p rest t is
-has_at (p ∷ rest) (suc k) t lt is = rw (has_at rest k t (omega arith) is) (or_true (eqb p t))
+has_at (p ∷ rest) (suc k) t lt is = rw (has_at rest k t (omega arith) is) (or-true (eqb p t))
 
 pub has_nowhere : (xs : List ℕ) (t : ℕ) → ((k : ℕ) → k < length xs → get_or xs k 0 ≢ t)
     → has xs t ≡ false

@@ -2,6 +2,7 @@
 use Rattle.std.proofs.Common.{◌≡◌, ℕ, zero, suc, ◌+◌, ◌<◌, ◌≤◌, Bool, true, false, ◌||◌, eqb, List}
 use Rattle.std.proofs.Common.{[], ◌∷◌, length, get_or, refl, sym, ◌∙◌, ap, arith, subst, Result}
 use Rattle.std.proofs.Common.{Err}
+use Rattle.std.proofs.Math.Bool.{or_assoc}
 use Rattle.std.proofs.lemmas.Bool.Decides.{nat_tests}
 use Rattle.std.proofs.lemmas.List.Sorted.{searched}
 use Rattle.std.specs.List.{insert}
@@ -15,16 +16,12 @@ or_swap : (x t : ℕ) (b : Bool) → (eqb x t || b) ≡ (b || eqb t x)
 or_swap x t true = grind (arith, nat_tests)
 or_swap x t false = grind (arith, nat_tests)
 
-or_assoc : (a b c : Bool) → (a || (b || c)) ≡ ((a || b) || c)
-or_assoc true b c = refl
-or_assoc false b c = refl
-
 -- its points are those before and the new one
 pub has_insert : (i : ℕ) (xs : List ℕ) (x t : ℕ) → has (insert xs i x) t ≡ (has xs t || eqb t x)
 has_insert zero xs x t = or_swap x t (has xs t)
 has_insert (suc i) [] x t = or_swap x t false
 has_insert (suc i) (p ∷ rest) x t = ap (λ (b : Bool). eqb p t || b) (has_insert i rest x t)
-    ∙ or_assoc (eqb p t) (has rest t) (eqb t x)
+    ∙ sym (or_assoc (eqb p t) (has rest t) (eqb t x))
 
 -- where it lies above those before its place and below those after it, they rise
 pub rising_insert : (i floor : ℕ) (xs : List ℕ) (x : ℕ) → IsRisingFrom floor xs → floor ≤ x

@@ -1,4 +1,3 @@
-pub mod Numbers
 pub mod Covering
 pub mod Having
 pub mod Parts

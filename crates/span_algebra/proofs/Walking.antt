@@ -4,8 +4,9 @@ use Rattle.std.proofs.Common.{cond, List, [], ◌∷◌, ◌++◌, length, get_o
 use Rattle.std.proofs.Common.{refl, sym, ◌∙◌, ap, ap₂, subst, arith, ◌*◌}
 use Rattle.std.proofs.lemmas.Bool.Decides.{nat_tests}
 use Rattle.std.proofs.lemmas.List.Elements.{All-nil, All-cons, All-head, All-tail}
-use Rattle.std.proofs.lemmas.List.Sums.{sum_by-cons, sum_by-le}
-use Rattle.std.proofs.lemmas.List.Sorted.{All-permutation, length_permutation, sum_by-IsPermutation}
+use Rattle.std.proofs.lemmas.List.Sums.{sum_by-le}
+use Rattle.std.proofs.lemmas.List.Sorted.{All-permutation, length_permutation, sum_by_pushed}
+use Rattle.std.proofs.lemmas.List.Sorted.{sum_by_popped}
 use Rattle.std.specs.List.{sum_by}
 use Rattle.std.specs.List.Sorted.{IsPermutation}
 use Rattle.std.specs.BinaryHeap.{IsHeap, IsUpperBound}
@@ -188,7 +189,7 @@ taken test count cs rest x held out begun top w moved bound front =
     let others : All (IsLeft x.at) rest = λ k d lt. left_more top x.at (get_or rest k d)
     (All-tail (IsLeft top) x rest each k d lt) (least k d lt) in
     let parts : (f : Cursor → ℕ) → sum_by f cs ≡ f x + sum_by f rest =
-    λ f. sym (sum_by-IsPermutation f cs (x ∷ rest) moved) ∙ sum_by-cons f x rest in
+    λ f. omega (arith, sum_by_popped f x cs rest moved) in
     let steady : (side : Side) (t : ℕ) → top < t → t ≤ x.at → count side t ≡ held_on side held =
     λ side t above high.
     w.on.counts side t above ∙ parts (adds side t)
@@ -248,8 +249,8 @@ on_again : (test : Test) (count : Side → ℕ → ℕ) (rest cs : List Cursor) 
     (not x.inside) x.side) →
     IsOn test count cs now out begun x.at
 on_again test count rest cs x n held now out begun top t ordered moved past turns =
-    let parts : (f : Cursor → ℕ) → sum_by f cs ≡ f n + sum_by f rest = λ f. sum_by-IsPermutation f
-    (n ∷ rest) cs moved ∙ sum_by-cons f n rest in
+    let parts : (f : Cursor → ℕ) → sum_by f cs ≡ f n + sum_by f rest =
+    λ f. sum_by_pushed f n rest cs moved in
     let same : (side : Side) → one_on side (not x.inside) x.side ≡ adds_now side n =
     λ side. rw (past.inside, past.side) refl in
     record {
@@ -292,11 +293,9 @@ fewer : (cs rest more : List Cursor) (x : Cursor) (top : ℕ) → IsLeft top x
     → IsPermutation cs (x ∷ rest) → IsPassed x rest more → borders_left more < borders_left cs
 fewer cs rest more x top left moved (inl (n, past, again)) =
     let old : borders_left cs ≡ length (borders_of x) + borders_left rest =
-    sym (sum_by-IsPermutation (λ c. length (borders_of c)) cs (x ∷ rest) moved)
-    ∙ sum_by-cons (λ c. length (borders_of c)) x rest in
+    omega (arith, sum_by_popped (λ c. length (borders_of c)) x cs rest moved) in
     let new : borders_left more ≡ length (borders_of n) + borders_left rest =
-    sum_by-IsPermutation (λ c. length (borders_of c)) (n ∷ rest) more again
-    ∙ sum_by-cons (λ c. length (borders_of c)) n rest in
+    sum_by_pushed (λ c. length (borders_of c)) n rest more again in
     let same : length (borders_of n) ≡ length (after_front (borders_of x)) =
     ap length past.borders in
     let less : length (borders_of x) ≡ 1 + length (after_front (borders_of x)) =
@@ -304,8 +303,7 @@ fewer cs rest more x top left moved (inl (n, past, again)) =
     omega (arith, old, new, same, less)
 fewer cs rest more x top left moved (inr (none, is)) =
     let old : borders_left cs ≡ length (borders_of x) + borders_left rest =
-    sym (sum_by-IsPermutation (λ c. length (borders_of c)) cs (x ∷ rest) moved)
-    ∙ sum_by-cons (λ c. length (borders_of c)) x rest in
+    omega (arith, sum_by_popped (λ c. length (borders_of c)) x cs rest moved) in
     let new : borders_left more ≡ borders_left rest = ap borders_left is in
     let less : length (borders_of x) ≡ 1 + length (after_front (borders_of x)) =
     border_less (borders_of x) x.at left.front in

@@ -1,6 +1,7 @@
--- Normal lists of spans, rising lists of points, and the points that they have.
-use Rattle.std.specs.Prelude.{ℕ, ◌+◌, ◌<◌, ◌≤◌, nat_lt, nat_le, Bool, not, ◌&&◌, ◌==◌}
-use Rattle.std.specs.Prelude.{if◌then◌else◌, List, [], ◌∷◌, length, take}
+-- Public contracts speak by this: normal lists of spans, rising lists of points, and the points
+-- that they have.
+use Rattle.std.specs.Prelude.{ℕ, ◌+◌, ◌<◌, ◌≤◌, nat_lt, nat_le, Bool, ◌&&◌, ◌==◌}
+use Rattle.std.specs.Prelude.{List, [], ◌∷◌, map, length, take}
 use Rattle.std.specs.List.{list_any}
 use Rattle.span_algebra.specs.declared.spans.Span.{Span}
 
@@ -18,9 +19,12 @@ IsNormal spans = IsNormalFrom 0 spans
 abbrev pub covers : List Span → ℕ → Bool
 covers spans t = list_any (λ s. nat_lt s.after t && nat_le t s.until) spans
 
--- one of two facts holds, and not the other
-abbrev pub exactly_one : Bool → Bool → Bool
-exactly_one a b = if a then not b else b
+-- a span as the pair of the points before its first and of its last
+abbrev pub pair : Span → ℕ × ℕ
+pair span = (span.after, span.until)
+
+abbrev pub pairs : List Span → List (ℕ × ℕ)
+pairs spans = map pair spans
 
 -- each point is the floor or above, and below the next
 abbrev pub IsRisingFrom : ℕ → List ℕ → Type 0

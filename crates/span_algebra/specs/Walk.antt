@@ -1,4 +1,4 @@
--- Many lists of spans walked over side by side, border by border.
+-- For private functions alone: many lists of spans walked over side by side, border by border.
 use Rattle.std.specs.Prelude.{ℕ, ◌≡◌, ◌⊎◌, nat_lt, Bool, true, false, not, ◌&&◌, ◌==◌}
 use Rattle.std.specs.Prelude.{if◌then◌else◌, List, [], ◌∷◌, length, filter, All, Option, Some, None}
 use Rattle.std.specs.List.{sum_by}

@@ -1,7 +1,9 @@
 // The constructs that make lists of spans of other lists.
-ghost use Rattle.std.specs.Prelude.{◌≡◌, ◌<◌, ◌&&◌, not, nat_lt, nat_le, ℕ, length, map, IfOk};
+ghost use Rattle.std.specs.Prelude.{◌≡◌, ◌+◌, ◌<◌, ◌&&◌, not, nat_lt, nat_le, ℕ, length, map, IfOk};
 ghost use Rattle.std.specs.List.{list_any, list_all};
-ghost use Rattle.span_algebra.specs.Normal.{covers, exactly_one};
+ghost use Rattle.rt_base.specs.Truths.{differs};
+ghost use Rattle.span_algebra.specs.Normal.{IsNormal, covers};
+ghost use Rattle.span_algebra.specs.Walk.{answer_of, one_on};
 
 use crate::cursor::Side;
 use crate::walk::{Test, add, add_all, walk};
@@ -97,6 +99,22 @@ pub fn relative_complement_all(
     Ok(out)
 }
 
+// The points that so many of two lists have.
+fn shared_by(alloc: Global, count: usize, one: &[Span], two: &[Span]) -> Result<Spans, OutOfMemory>
+    requires some { 0 < count }
+    requires one { IsNormal one.now }
+    requires two { IsNormal two.now }
+    ensures { IfOk result (λ out. (t : ℕ)
+        → covers out t ≡ answer_of (Test.Exactly count) (one_on Side.Wanted (covers one.now t)
+        Side.Wanted + one_on Side.Wanted (covers two.now t) Side.Wanted) 0) }
+{
+    let mut cursors = BinaryHeap::with_capacity(alloc, 2)?;
+    add(&mut cursors, Side::Wanted, one)?;
+    add(&mut cursors, Side::Wanted, two)?;
+    let out = walk(alloc, Test::Exactly(count), cursors)?;
+    Ok(out)
+}
+
 /// The points of the list above `w`, up to and with `last`: its spans `(after, until]`, cut to the
 /// span `(w, last]`, which may be empty. One walk over the list. The one error is want of memory.
 /// The construct is our own.
@@ -111,22 +129,16 @@ pub fn clip(alloc: Global, list: &Spans, w: Point, last: Point) -> Result<Spans,
         after: w,
         until: last,
     }];
-    let mut cursors = BinaryHeap::with_capacity(alloc, 2)?;
-    add(&mut cursors, Side::Wanted, list.as_slice())?;
-    add(&mut cursors, Side::Wanted, &window)?;
-    let out = walk(alloc, Test::Exactly(2), cursors)?;
+    let out = shared_by(alloc, 2, list.as_slice(), &window)?;
     Ok(out)
 }
 
 /// The points that just one of the two lists has. One walk over the spans `(after, until]` of both.
 /// The one error is want of memory. The construct is our own.
 pub fn differ(alloc: Global, one: &Spans, two: &Spans) -> Result<Spans, OutOfMemory>
-    ensures { IfOk result (λ out. (t : ℕ) → covers out t ≡ exactly_one (covers one.now t)
+    ensures { IfOk result (λ out. (t : ℕ) → covers out t ≡ differs (covers one.now t)
         (covers two.now t)) }
 {
-    let mut cursors = BinaryHeap::with_capacity(alloc, 2)?;
-    add(&mut cursors, Side::Wanted, one.as_slice())?;
-    add(&mut cursors, Side::Wanted, two.as_slice())?;
-    let out = walk(alloc, Test::Exactly(1), cursors)?;
+    let out = shared_by(alloc, 1, one.as_slice(), two.as_slice())?;
     Ok(out)
 }

@@ -7,6 +7,7 @@ use crate::{Point, Points, Span, Spans};
 use rt_base::OutOfMemory;
 use std::alloc::Global;
 
+// The first of the points.
 #[inline]
 fn first_point(points: &[Point]) -> Option<Point>
     ensures { result ≡ front_of points.now }
@@ -17,6 +18,7 @@ fn first_point(points: &[Point]) -> Option<Point>
     }
 }
 
+// The points after the first.
 #[inline]
 fn rest_points(points: &[Point]) -> &[Point]
     ensures { result.now ≡ after_front points.now }
@@ -27,6 +29,7 @@ fn rest_points(points: &[Point]) -> &[Point]
     }
 }
 
+// The first of the spans.
 #[inline]
 fn first_span(spans: &[Span]) -> Option<Span>
     ensures { result ≡ span_of spans.now }
@@ -37,6 +40,7 @@ fn first_span(spans: &[Span]) -> Option<Span>
     }
 }
 
+// The spans after the first.
 #[inline]
 fn rest_spans(spans: &[Span]) -> &[Span]
     ensures { result.now ≡ rest_of spans.now }

@@ -3,9 +3,11 @@ use crate::{
     ListRefused, Points, Span, Spans, clip, cut_points, differ, intersect_all,
     relative_complement_all, union_all,
 };
+use rt_base::OutOfMemory;
 use std::alloc::Global;
 use std::test::Fail;
 
+// A span, in short.
 fn span(after: u64, until: u64) -> Span {
     Span { after, until }
 }
@@ -38,11 +40,17 @@ fn lists_are_taken_or_refused_at_a_place(rt: HostRuntime) {
     }
 }
 
-#[test]
-fn lists_are_read_and_copied(rt: HostRuntime) -> Result<(), Fail> {
+// Two spans, taken over and copied.
+fn two_spans(alloc: Global) -> Result<Spans, Fail> {
     let list = [Span { after: 1, until: 3 }, Span { after: 5, until: 6 }];
-    let spans = Spans::of(rt.alloc(), Vec::from_slice(rt.alloc(), &list)?).copy()?;
-    assert_eq!(rt; spans.as_slice(), list.as_slice());
+    let spans = Spans::of(alloc, Vec::from_slice(alloc, &list)?);
+    Ok(spans.copy()?)
+}
+
+#[test]
+fn spans_hold_at_their_points(rt: HostRuntime) -> Result<(), Fail> {
+    let spans = two_spans(rt.alloc())?;
+    assert_eq!(rt; spans.as_slice(), [span(1, 3), span(5, 6)].as_slice());
     for (at, holds) in [
         (0, false),
         (1, false),
@@ -55,8 +63,27 @@ fn lists_are_read_and_copied(rt: HostRuntime) -> Result<(), Fail> {
     ] {
         assert_eq!(rt; spans.holds(at), holds, "at {at}");
     }
-    let points = Points::of(rt.alloc(), Vec::from_slice(rt.alloc(), &[2, 3, 7])?).copy()?;
-    assert_eq!(rt; points.as_slice(), [2, 3, 7].as_slice());
+    Ok(())
+}
+
+#[test]
+fn spans_are_put_after_the_others(rt: HostRuntime) -> Result<(), Fail> {
+    let mut spans = Spans::new(rt.alloc());
+    spans.push(Span { after: 1, until: 3 })?;
+    spans.push(Span { after: 5, until: 6 })?;
+    assert_eq!(rt; spans.as_slice(), [span(1, 3), span(5, 6)].as_slice());
+    Ok(())
+}
+
+// Three points, taken over and copied.
+fn three_points(alloc: Global) -> Result<Points, Fail> {
+    let points = Points::of(alloc, Vec::from_slice(alloc, &[2, 3, 7])?);
+    Ok(points.copy()?)
+}
+
+#[test]
+fn points_are_found(rt: HostRuntime) -> Result<(), Fail> {
+    let points = three_points(rt.alloc())?;
     for (at, has) in [
         (1, false),
         (2, true),
@@ -67,6 +94,13 @@ fn lists_are_read_and_copied(rt: HostRuntime) -> Result<(), Fail> {
     ] {
         assert_eq!(rt; points.has(at), has, "at {at}");
     }
+    Ok(())
+}
+
+#[test]
+fn points_are_lent_between_two(rt: HostRuntime) -> Result<(), Fail> {
+    let points = three_points(rt.alloc())?;
+    assert_eq!(rt; points.as_slice(), [2, 3, 7].as_slice());
     for (w, q, within) in [
         (1, 7, points.as_slice()),
         (2, 6, &[3]),
@@ -76,130 +110,153 @@ fn lists_are_read_and_copied(rt: HostRuntime) -> Result<(), Fail> {
     ] {
         assert_eq!(rt; points.within(w, q), within, "above {w}, to {q}");
     }
-    assert!(rt; Spans::new(rt.alloc()).as_slice().is_empty());
-    assert!(rt; Points::new(rt.alloc()).as_slice().is_empty());
     Ok(())
 }
 
+// One call of points, as a test writes it.
+#[derive(Clone, Copy)]
+enum Call {
+    Insert(u64),
+    Remove(u64),
+    DropUntil(u64),
+}
+
+// Makes a call, and says what it answered.
+fn made(points: &mut Points, call: Call) -> Result<bool, Fail> {
+    match call {
+        Call::Insert(at) => Ok(points.insert(at)?),
+        Call::Remove(at) => Ok(points.remove(at)),
+        Call::DropUntil(w) => {
+            points.drop_until(w);
+            Ok(true)
+        }
+    }
+}
+
 #[test]
-fn points_go_to_their_places(rt: HostRuntime) -> Result<(), Fail> {
+fn points_come_and_go(rt: HostRuntime) -> Result<(), Fail> {
     let mut points = Points::new(rt.alloc());
-    for (at, added) in [(5, true), (2, true), (5, false), (9, true), (7, true)] {
-        assert_eq!(rt; points.insert(at)?, added, "at {at}");
+    for (call, answer, after) in [
+        (Call::Insert(5), true, [5].as_slice()),
+        (Call::Insert(2), true, &[2, 5]),
+        (Call::Insert(5), false, &[2, 5]),
+        (Call::Insert(9), true, &[2, 5, 9]),
+        (Call::Insert(7), true, &[2, 5, 7, 9]),
+        (Call::Remove(5), true, &[2, 7, 9]),
+        (Call::Remove(5), false, &[2, 7, 9]),
+        (Call::Remove(3), false, &[2, 7, 9]),
+        (Call::Remove(9), true, &[2, 7]),
+        (Call::DropUntil(1), true, &[2, 7]),
+        (Call::DropUntil(2), true, &[7]),
+    ] {
+        let answered = made(&mut points, call)?;
+        assert_eq!(rt; (answered, points.as_slice()), (answer, after));
     }
-    assert_eq!(rt; points.as_slice(), [2, 5, 7, 9].as_slice());
     Ok(())
 }
 
-#[test]
-fn spans_are_put_after_the_others(rt: HostRuntime) -> Result<(), Fail> {
-    let mut spans = Spans::new(rt.alloc());
-    spans.push(Span { after: 1, until: 3 })?;
-    spans.push(Span { after: 5, until: 6 })?;
-    let list = [Span { after: 1, until: 3 }, Span { after: 5, until: 6 }];
-    assert_eq!(rt; spans.as_slice(), list.as_slice());
-    Ok(())
+// A construct, as a test writes it: of all lists, of the first and the others, of the first alone
+// over a window, or of the first two.
+#[derive(Clone, Copy, Debug)]
+enum Construct {
+    Union,
+    Intersection,
+    Complement,
+    Clip(u64, u64),
+    Differ,
 }
 
-#[test]
-fn points_are_taken_away(rt: HostRuntime) -> Result<(), Fail> {
-    let mut points = Points::of(rt.alloc(), Vec::from_slice(rt.alloc(), &[2, 5, 7, 9])?);
-    for (at, removed) in [(5, true), (5, false), (3, false), (9, true)] {
-        assert_eq!(rt; points.remove(at), removed, "at {at}");
+// A normal list of the spans of these borders.
+fn spans_of(alloc: Global, borders: &[(u64, u64)]) -> Result<Spans, Fail> {
+    let mut list = Vec::new(alloc);
+    for (after, until) in borders {
+        list.push(span(*after, *until))?;
     }
-    assert_eq!(rt; points.as_slice(), [2, 7].as_slice());
-    points.drop_until(1);
-    assert_eq!(rt; points.as_slice(), [2, 7].as_slice());
-    points.drop_until(2);
-    assert_eq!(rt; points.as_slice(), [7].as_slice());
-    Ok(())
+    Ok(Spans::from_list(alloc, &list)?)
 }
 
-// The spans of a list that is normal.
-fn made(alloc: Global, list: &[Span]) -> Result<Spans, Fail> {
-    let spans = Spans::from_list(alloc, list)?;
-    Ok(spans)
+// A normal list for each of these.
+fn lists_of(alloc: Global, lists: &[&[(u64, u64)]]) -> Result<Vec<Spans>, Fail> {
+    let mut all = Vec::new(alloc);
+    for borders in lists {
+        let spans = spans_of(alloc, borders)?;
+        all.push(spans)?;
+    }
+    Ok(all)
+}
+
+// What a construct makes of lists; no span where they are too few for it.
+fn constructed(alloc: Global, construct: Construct, lists: &[Spans]) -> Result<Spans, OutOfMemory> {
+    match (construct, lists) {
+        (Construct::Union, lists) => union_all(alloc, lists),
+        (Construct::Intersection, [_, ..]) => intersect_all(alloc, lists),
+        (Construct::Complement, [first, others @ ..]) => {
+            relative_complement_all(alloc, first, others)
+        }
+        (Construct::Clip(w, last), [list, ..]) => clip(alloc, list, w, last),
+        (Construct::Differ, [one, two, ..]) => differ(alloc, one, two),
+        _ => Ok(Spans::new(alloc)),
+    }
 }
 
 #[test]
-fn many_lists_become_one(rt: HostRuntime) -> Result<(), Fail> {
-    let alloc = rt.alloc();
-    let touching = [made(alloc, &[span(1, 3)])?, made(alloc, &[span(3, 5)])?];
-    let union = union_all(alloc, &touching)?;
-    assert_eq!(rt; union.as_slice(), [span(1, 5)].as_slice());
-    let apart = [made(alloc, &[span(1, 5)])?, made(alloc, &[span(5, 7)])?];
-    let both = intersect_all(alloc, &apart)?;
-    assert!(rt; both.as_slice().is_empty());
-    let nested = [
-        made(alloc, &[span(1, 20)])?,
-        made(alloc, &[span(2, 4), span(6, 19)])?,
-        made(alloc, &[span(3, 8)])?,
+fn constructs_are_as_worked_by_hand(rt: HostRuntime) -> Result<(), Fail> {
+    use Construct::{Clip, Complement, Differ, Intersection, Union};
+    let touching: &[&[(u64, u64)]] = &[&[(1, 3)], &[(3, 5)]];
+    let apart: &[&[(u64, u64)]] = &[&[(1, 5)], &[(5, 7)]];
+    let nested: &[&[(u64, u64)]] = &[&[(1, 20)], &[(2, 4), (6, 19)], &[(3, 8)]];
+    let first_and_others: &[&[(u64, u64)]] = &[&[(2, 9)], &[(2, 4)], &[(6, 9)]];
+    let twice: &[&[(u64, u64)]] = &[&[(2, 9)], &[(2, 9)]];
+    let two: &[&[(u64, u64)]] = &[&[(0, 5), (8, 20)]];
+    let inner: &[&[(u64, u64)]] = &[&[(2, 9)], &[(4, 6)]];
+    let none: &[&[(u64, u64)]] = &[];
+    let empty: &[&[(u64, u64)]] = &[&[], &[], &[]];
+    let rows: [(Construct, &[&[(u64, u64)]], &[(u64, u64)]); 18] = [
+        (Union, touching, &[(1, 5)]),
+        (Intersection, apart, &[]),
+        (Union, nested, &[(1, 20)]),
+        (Intersection, nested, &[(3, 4), (6, 8)]),
+        (Complement, first_and_others, &[(4, 6)]),
+        (Complement, &twice[..1], &[(2, 9)]),
+        (Complement, twice, &[]),
+        (Clip(3, 11), two, &[(3, 5), (8, 11)]),
+        (Clip(11, 11), two, &[]),
+        (Differ, inner, &[(2, 4), (6, 9)]),
+        // Lists without a span, and one list alone.
+        (Union, none, &[]),
+        (Union, empty, &[]),
+        (Intersection, empty, &[]),
+        (Complement, empty, &[]),
+        (Clip(0, 9), empty, &[]),
+        (Differ, empty, &[]),
+        (Union, &touching[..1], &[(1, 3)]),
+        (Intersection, &touching[..1], &[(1, 3)]),
     ];
-    let union = union_all(alloc, &nested)?;
-    assert_eq!(rt; union.as_slice(), [span(1, 20)].as_slice());
-    let both = intersect_all(alloc, &nested)?;
-    assert_eq!(rt; both.as_slice(), [span(3, 4), span(6, 8)].as_slice());
-    let none = union_all(alloc, &[])?;
-    assert!(rt; none.as_slice().is_empty());
+    for (construct, lists, wanted) in rows {
+        let lists = lists_of(rt.alloc(), lists)?;
+        let found = constructed(rt.alloc(), construct, &lists)?;
+        let wanted = spans_of(rt.alloc(), wanted)?;
+        assert_eq!(rt; found.as_slice(), wanted.as_slice(), "{construct:?}");
+    }
     Ok(())
 }
 
-#[test]
-fn complements_keep_what_no_other_has(rt: HostRuntime) -> Result<(), Fail> {
-    let alloc = rt.alloc();
-    let first = made(alloc, &[span(2, 9)])?;
-    let others = [made(alloc, &[span(2, 4)])?, made(alloc, &[span(6, 9)])?];
-    let rest = relative_complement_all(alloc, &first, &others)?;
-    assert_eq!(rt; rest.as_slice(), [span(4, 6)].as_slice());
-    let all = relative_complement_all(alloc, &first, &[])?;
-    assert_eq!(rt; all.as_slice(), [span(2, 9)].as_slice());
-    let itself = relative_complement_all(alloc, &first, &[made(alloc, &[span(2, 9)])?])?;
-    assert!(rt; itself.as_slice().is_empty());
-    Ok(())
+// The points of a list at which spans hold.
+fn cut(alloc: Global, list: &[u64], within: &[(u64, u64)]) -> Result<Points, Fail> {
+    let points = Points::from_list(alloc, list)?;
+    let within = spans_of(alloc, within)?;
+    Ok(cut_points(alloc, &points, &within)?)
 }
 
 #[test]
-fn lists_are_cut_and_told_apart(rt: HostRuntime) -> Result<(), Fail> {
-    let alloc = rt.alloc();
-    let list = made(alloc, &[span(0, 5), span(8, 20)])?;
-    let clipped = clip(alloc, &list, 3, 11)?;
-    assert_eq!(rt; clipped.as_slice(), [span(3, 5), span(8, 11)].as_slice());
-    let outside = clip(alloc, &list, 11, 11)?;
-    assert!(rt; outside.as_slice().is_empty());
-    let one = made(alloc, &[span(2, 9)])?;
-    let two = made(alloc, &[span(4, 6)])?;
-    let apart = differ(alloc, &one, &two)?;
-    assert_eq!(rt; apart.as_slice(), [span(2, 4), span(6, 9)].as_slice());
-    let points = Points::of(alloc, Vec::from_slice(alloc, &[3, 4, 9, 10])?);
-    let cut = cut_points(alloc, &points, &made(alloc, &[span(3, 9)])?)?;
-    assert_eq!(rt; cut.as_slice(), [4, 9].as_slice());
-    Ok(())
-}
-
-#[test]
-fn empty_rows_give_empty_rows(rt: HostRuntime) -> Result<(), Fail> {
-    let alloc = rt.alloc();
-    let none = Spans::new(alloc);
-    let empty = [Spans::new(alloc), Spans::new(alloc), Spans::new(alloc)];
-    assert!(rt; union_all(alloc, &empty)?.as_slice().is_empty());
-    assert!(rt; intersect_all(alloc, &empty)?.as_slice().is_empty());
-    assert!(rt;
-        relative_complement_all(alloc, &none, &empty)?
-            .as_slice()
-            .is_empty()
-    );
-    assert!(rt; clip(alloc, &none, 0, 9)?.as_slice().is_empty());
-    assert!(rt; differ(alloc, &none, &none)?.as_slice().is_empty());
-    let points = Points::of(alloc, Vec::from_slice(alloc, &[3])?);
-    assert!(rt; cut_points(alloc, &points, &none)?.as_slice().is_empty());
-    let only = [made(alloc, &[span(1, 3)])?];
-    assert_eq!(rt;
-        union_all(alloc, &only)?.as_slice(),
-        [span(1, 3)].as_slice()
-    );
-    assert_eq!(rt;
-        intersect_all(alloc, &only)?.as_slice(),
-        [span(1, 3)].as_slice()
-    );
+fn points_are_cut_by_spans(rt: HostRuntime) -> Result<(), Fail> {
+    let rows: [(&[u64], &[(u64, u64)], &[u64]); 2] = [
+        (&[3, 4, 9, 10], &[(3, 9)], &[4, 9]),
+        (&[3], &[], &[]),
+    ];
+    for (list, within, wanted) in rows {
+        let found = cut(rt.alloc(), list, within)?;
+        assert_eq!(rt; found.as_slice(), wanted);
+    }
     Ok(())
 }

@@ -28,6 +28,7 @@ pub(crate) struct Held {
     barred: usize,
 }
 
+// Whether so many lists pass the test.
 #[inline]
 fn answer(test: Test, held: Held) -> bool
     ensures { result ≡ answer_of test held.wanted held.barred }
