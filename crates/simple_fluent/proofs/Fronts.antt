@@ -1,12 +1,12 @@
 -- The fronts of rising points, and the terminations that are left.
 use Rattle.std.proofs.Common.{◌≡◌, ℕ, ◌+◌, ◌<◌, ◌≤◌, Bool, true, false, cond, ◌&&◌, leb, ltb, eqb}
-use Rattle.std.proofs.Common.{List, [], ◌∷◌, filter, get_or, Option, Some, None, refl, sym, ◌∙◌, ap}
+use Rattle.std.proofs.Common.{List, [], ◌∷◌, get_or, Option, Some, None, refl, sym, ◌∙◌}
 use Rattle.std.proofs.Common.{arith}
 use Rattle.std.specs.List.{AllByRecursion}
 use Rattle.std.proofs.lemmas.Bool.Decides.{nat_tests}
-use Rattle.std.proofs.lemmas.Map.Views.{any-filter_same}
 use Rattle.span_algebra.specs.Normal.{IsRising, IsRisingFrom}
 use Rattle.ground_types.specs.Members.{contains}
+use Rattle.ground_types.proofs.Members.{contains_filter, contains_hit}
 use Rattle.simple_fluent.specs.Rows.{IsInside}
 use Rattle.simple_fluent.specs.Sweep.{after_point, terms_from}
 use Rattle.simple_fluent.proofs.Inertia.{ended, ended_inside}
@@ -58,12 +58,6 @@ pub after_rises : (xs : List ℕ) (at : ℕ) → IsRising xs → IsRising (after
 after_rises [] at up = tt
 after_rises (p ∷ rest) at up = after_by p rest (eqb p at) up
 
-contains_filter : (test : ℕ → Bool) (xs : List ℕ) (t : ℕ) → contains (filter test xs) t
-    ≡ (test t && contains xs t)
-contains_filter test xs t =
-    any-filter_same (λ y. eqb y t) test (test t) (λ k is. (let same : k ≡ t =
-    grind (arith, nat_tests) in ap test same)) xs
-
 inside_part : (above q t : ℕ) (b : Bool) → above < t → (b ≡ true → t ≤ q)
     → b ≡ ((ltb above t && leb t q) && b)
 inside_part above q t true lt le = let high : t ≤ q = le refl in grind (arith, nat_tests)
@@ -82,15 +76,13 @@ terms_from_same w q terms (Some v) above t inside lt =
 test_above : (above q t : ℕ) (b : Bool) → ((ltb above t && leb t q) && b) ≡ true → above < t
 test_above above q t b is = grind (arith, nat_tests)
 
-first_there : (p : ℕ) (rest : List ℕ) → contains (p ∷ rest) p ≡ true
-first_there p rest = let yes : eqb p p ≡ true = grind (arith, nat_tests) in rw yes refl
-
 above_by : (above q : ℕ) (all xs : List ℕ)
     → ((t : ℕ) → contains xs t ≡ ((ltb above t && leb t q) && contains all t)) → IsRising xs
     → IsRisingFrom (above + 1) xs
 above_by above q all [] same up = tt
 above_by above q all (p ∷ rest) same up =
-    let lt : above < p = test_above above q p (contains all p) (sym (same p) ∙ first_there p rest)
+    let lt : above < p = test_above above q p (contains all p) (sym (same p)
+    ∙ contains_hit p rest p refl)
     in
     (omega arith, up.1)
 

@@ -5,7 +5,7 @@ use Rattle.span_algebra.specs.declared.spans.Span.{Span}
 use Rattle.span_algebra.specs.Normal.{IsNormalFrom, IsNormal}
 use Rattle.ground_types.specs.Rows.{IsRisingFrom}
 use Rattle.ground_types.proofs.Rows.{rising_push}
-use Rattle.simple_fluent.specs.Rows.{pair, pairs}
+use Rattle.span_algebra.specs.Normal.{pair, pairs}
 use Rattle.simple_fluent.proofs.Swept.{IsSwept}
 
 normal_from : (floor : ℕ) (spans : List Span) → IsRisingFrom floor (pairs spans)

@@ -16,7 +16,8 @@ use Rattle.ground_types.specs.Inertia.{has_value}
 use Rattle.ground_types.specs.Rows.{row}
 use Rattle.ground_types.proofs.Rows.{row_from_points}
 use Rattle.simple_fluent.specs.declared.firsts.First.{First}
-use Rattle.simple_fluent.specs.Rows.{pair, pairs, rows_of, IsInside, IsValueBelow}
+use Rattle.span_algebra.specs.Normal.{pair, pairs}
+use Rattle.simple_fluent.specs.Rows.{rows_of, IsInside, IsValueBelow}
 use Rattle.simple_fluent.specs.Firsts.{least_with, RisesFrom, value_in, past_first}
 use Rattle.span_algebra.specs.Walk.{begun_after, closed_at}
 use Rattle.simple_fluent.specs.Sweep.{started, after_point, next_of, is_same, terms_from}
@@ -102,10 +103,6 @@ count_next : (rows : List (List Span)) (current next : Option ℕ) (since at : �
 count_next rows None next since at = refl
 count_next rows (Some c) next since at = count_cond rows c _ (is_value next c)
 
--- whether a fluent has this value
-abbrev pub test : Option ℕ → List (List ℕ) → List (List ℕ) → ℕ → ℕ → ℕ → Bool
-test opening inits terms w v t = is_value (value opening inits terms w t) v
-
 -- all that a sweep knows
 pub record IsSweeping (opening : Option ℕ) (inits terms : List (List ℕ)) (w q : ℕ)
     (firsts_left : List First) (terms_left : List ℕ)
@@ -119,7 +116,7 @@ pub record IsSweeping (opening : Option ℕ) (inits terms : List (List ℕ)) (w 
   pub now : value opening inits terms w top ≡ current
   pub ranged : IsValueBelow (length rows) current
   pub count : length rows ≡ length inits
-  pub each : (v : ℕ) → v < length inits → IsSwept (test opening inits terms w v) w top
+  pub each : (v : ℕ) → v < length inits → IsSwept (has_value opening inits terms w v) w top
       (pairs (get_or rows v [])) (begun_of current since v)
 
 -- the next point at which something happens
@@ -183,10 +180,10 @@ quiet_rows : (opening : Option ℕ) (inits terms : List (List ℕ)) (w q : ℕ)
     (rows : List (List Span)) (current : Option ℕ) (since top at : ℕ) →
     IsSweeping opening inits terms w q firsts_left terms_left rows current since top → top ≤ at
     → RisesFrom at firsts_left → IsRisingFrom at terms_left →
-    (v : ℕ) → v < length inits → IsSwept (test opening inits terms w v) w at
+    (v : ℕ) → v < length inits → IsSwept (has_value opening inits terms w v) w at
     (pairs (get_or rows v [])) (begun_of current since v)
 quiet_rows opening inits terms w q firsts_left terms_left rows current since top at s le f e v lt =
-    swept_further (test opening inits terms w v) w top at (pairs (get_or rows v []))
+    swept_further (has_value opening inits terms w v) w top at (pairs (get_or rows v []))
     (begun_of current since v) (s.each v lt) le
     (λ t low high. ap (λ (o : Option ℕ). is_value o v)
     (quiet_value opening inits terms w q firsts_left terms_left rows current since top at s f e t
@@ -321,7 +318,7 @@ sweeping_more opening inits terms w q firsts_left terms_left rows current since 
         map-append pair (get_or rows v []) (closed_at (begun_of current since v)
             (is_value (started firsts_left at) v) at),
       )
-          (swept_past (test opening inits terms w v) w at (pairs (get_or rows v []))
+          (swept_past (has_value opening inits terms w v) w at (pairs (get_or rows v []))
           (begun_of current since v) (is_value (started firsts_left at) v)
           (quiet_rows opening inits terms w q firsts_left terms_left rows current since top at s
           n.above n.firsts_from n.terms_from v lt)
@@ -335,14 +332,14 @@ begun_same c since = let yes : eqb c c ≡ true = grind (arith, nat_tests) in rw
 pass_by : (opening : Option ℕ) (inits terms : List (List ℕ)) (w : ℕ) (rows : List (List Span))
     (current next : Option ℕ) (since at : ℕ) →
     IsValueBelow (length rows) current → length rows ≡ length inits →
-    ((v : ℕ) → v < length inits → IsSwept (test opening inits terms w v) w at
+    ((v : ℕ) → v < length inits → IsSwept (has_value opening inits terms w v) w at
     (pairs (get_or rows v [])) (begun_of current since v)) →
     CanPass rows current since next at
 pass_by opening inits terms w rows None next since at ranged count each = tt
 pass_by opening inits terms w rows (Some c) next since at ranged count each = (
   ranged,
-  λ is. can_close (test opening inits terms w c) w at since (get_or rows c [])
-      (subst (λ (b : Option ℕ). IsSwept (test opening inits terms w c) w at
+  λ is. can_close (has_value opening inits terms w c) w at since (get_or rows c [])
+      (subst (λ (b : Option ℕ). IsSwept (has_value opening inits terms w c) w at
       (pairs (get_or rows c [])) b) (begun_same c since) (each c (omega (arith, ranged)))),
 )
 
@@ -381,11 +378,11 @@ begun_first None w v = refl
 begun_first (Some c) w v = opened w (eqb c v)
 
 first_row : (opening : Option ℕ) (inits terms : List (List ℕ)) (w v : ℕ) →
-    IsSwept (test opening inits terms w v) w (w + 1) [] (begun_of opening w v)
+    IsSwept (has_value opening inits terms w v) w (w + 1) [] (begun_of opening w v)
 first_row opening inits terms w v =
-    subst (λ (b : Option ℕ). IsSwept (test opening inits terms w v) w (w + 1) [] b)
+    subst (λ (b : Option ℕ). IsSwept (has_value opening inits terms w v) w (w + 1) [] b)
     (sym (begun_first opening w v))
-    (swept_start (test opening inits terms w v) w (is_value opening v)
+    (swept_start (has_value opening inits terms w v) w (is_value opening v)
     (ap (λ (o : Option ℕ). is_value o v) (value_first opening inits terms w)))
 
 pub sweeping_start : (opening : Option ℕ) (inits terms : List (List ℕ)) (w q : ℕ)
@@ -431,7 +428,7 @@ end_rows : (opening : Option ℕ) (inits terms : List (List ℕ)) (w q : ℕ) (f
     (rows : List (List Span)) (current : Option ℕ) (since top : ℕ) →
     IsSweeping opening inits terms w q firsts_left terms_left rows current since top
     → next_of firsts_left terms_left ≡ None →
-    (v : ℕ) → v < length inits → IsSwept (test opening inits terms w v) w (q + 1)
+    (v : ℕ) → v < length inits → IsSwept (has_value opening inits terms w v) w (q + 1)
     (pairs (get_or rows v [])) (begun_of current since v)
 end_rows opening inits terms w q firsts_left terms_left rows current since top s is =
     let none : (firsts_left ≡ []) × (terms_left ≡ []) = none_next firsts_left terms_left is in

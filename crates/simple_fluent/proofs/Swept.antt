@@ -8,24 +8,11 @@ use Rattle.std.proofs.lemmas.List.{append-nil}
 use Rattle.std.proofs.lemmas.Bool.Decides.{nat_tests}
 use Rattle.ground_types.specs.Rows.{IsRisingFrom, covers, IsRowByPoints}
 use Rattle.ground_types.proofs.Rows.{IsBelow, below_more, below_push, rising_push, covers_above}
-use Rattle.ground_types.proofs.Rows.{covers_floor, covers_append, le_or_above}
-use Rattle.simple_fluent.specs.Rows.{pairs}
+use Rattle.ground_types.proofs.Rows.{covers_floor, covers_append}
+use Rattle.rt_base.proofs.Numbers.{le_or_above}
+use Rattle.span_algebra.proofs.Drawing.{is_open, limit, BeginsWithin, open_beyond, within_more}
+use Rattle.span_algebra.specs.Normal.{pairs}
 use Rattle.span_algebra.specs.Walk.{begun_after, closed_at}
-
--- the open span, if there is one, has the point
-abbrev pub is_open : Option ℕ → ℕ → Bool
-is_open None t = false
-is_open (Some a) t = ltb a t
-
--- below it all spans end
-abbrev pub limit : ℕ → Option ℕ → ℕ
-limit top None = top
-limit top (Some a) = a
-
--- the open span begins in the window, below the top
-abbrev pub BeginsWithin : ℕ → ℕ → Option ℕ → Type 0
-BeginsWithin w top None = Unit {0}
-BeginsWithin w top (Some a) = (w ≤ a) × (a < top)
 
 -- the spans and the open one are right at all points up to the top
 pub record IsSwept (test : ℕ → Bool) (w top : ℕ) (out : List (ℕ × ℕ)) (begun : Option ℕ) : Type 0
@@ -66,16 +53,6 @@ below_limit : (top : ℕ) (w : ℕ) (begun : Option ℕ) (out : List (ℕ × ℕ
     → IsBelow (limit top begun) out → IsBelow top out
 below_limit top w None out within below = below
 below_limit top w (Some a) out within below = below_more a top out below (omega (arith, within.1))
-
-open_beyond : (w top t : ℕ) (begun : Option ℕ) → BeginsWithin w top begun → top ≤ t
-    → is_open begun t ≡ is_some begun
-open_beyond w top t None within le = refl
-open_beyond w top t (Some a) within le = grind (arith, nat_tests, within.1)
-
-within_more : (w top more : ℕ) (begun : Option ℕ) → BeginsWithin w top begun → top ≤ more
-    → BeginsWithin w more begun
-within_more w top more None within le = tt
-within_more w top more (Some a) within le = (within.0, omega (arith, within.1))
 
 limit_more : (w top more : ℕ) (begun : Option ℕ) (out : List (ℕ × ℕ))
     → IsBelow (limit top begun) out → top ≤ more → IsBelow (limit more begun) out

@@ -1,5 +1,5 @@
--- Points at which some value is initiated, each with the first such value, and how two lists of
--- them become one.
+-- For private functions alone: points at which some value is initiated, each with the first such
+-- value, and how two lists of them become one.
 use Rattle.std.specs.Prelude.{ℕ, ◌+◌, ◌≤◌, nat_le, ◌==◌, if◌then◌else◌, List, [], ◌∷◌, Option, Some}
 use Rattle.std.specs.Prelude.{None}
 use Rattle.ground_types.specs.Members.{contains}

@@ -1,17 +1,10 @@
--- The rows of the values of a simple fluent, from the points at which each is initiated and
--- terminated.
+-- Public contracts speak by this: the rows of the values of a simple fluent, from the points at
+-- which each is initiated and terminated.
 use Rattle.std.specs.Prelude.{ℕ, ◌<◌, ◌≤◌, List, [], ◌∷◌, map, length, Option, Some, None}
 use Rattle.std.specs.List.{range_with_len}
 use Rattle.ground_types.specs.Inertia.{has_value}
 use Rattle.ground_types.specs.Rows.{row}
-use Rattle.span_algebra.specs.declared.spans.Span.{Span}
-
--- the span as the definitions have it
-abbrev pub pair : Span → ℕ × ℕ
-pair span = (span.after, span.until)
-
-abbrev pub pairs : List Span → List (ℕ × ℕ)
-pairs spans = map pair spans
+pub use Rattle.span_algebra.specs.Normal.{pair, pairs}
 
 -- each point is an event point of the window (w, q]
 abbrev pub IsInside : ℕ → ℕ → List ℕ → Type 0

@@ -1,4 +1,5 @@
--- What a sweep over the points at which something happens does at each point.
+-- For private functions alone: what a sweep over the points at which something happens does at
+-- each point.
 use Rattle.std.specs.Prelude.{◌≡◌, ℕ, ◌<◌, min, nat_lt, nat_le, Bool, true, false, ◌&&◌, ◌==◌}
 use Rattle.std.specs.Prelude.{if◌then◌else◌, List, [], ◌∷◌, ◌++◌, filter, slice_set, slice_index_or}
 use Rattle.std.specs.Prelude.{length, Option, Some, None}

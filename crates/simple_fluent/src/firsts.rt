@@ -15,6 +15,7 @@ pub struct First {
     pub value: usize,
 }
 
+// The front of a list.
 #[inline]
 fn first_of(firsts: &[First]) -> Option<First>
     ensures { result ≡ first_of firsts.now }

@@ -9,7 +9,8 @@
 
 ghost use Rattle.std.specs.Prelude.{◌≡◌, ◌<◌, ◌^◌, ◌-◌, length, map, IfOk};
 ghost use Rattle.std.specs.List.{AllByRecursion};
-ghost use Rattle.simple_fluent.specs.Rows.{pairs, rows_of, IsInside, IsValueBelow};
+ghost use Rattle.span_algebra.specs.Normal.{pairs};
+ghost use Rattle.simple_fluent.specs.Rows.{rows_of, IsInside, IsValueBelow};
 
 mod firsts;
 mod sweep;

@@ -2,8 +2,8 @@
 ghost use Rattle.std.specs.Prelude.{◌≡◌, ℕ, ◌≤◌, ◌<◌, ◌^◌, ◌+◌, ◌-◌, [], length, map, replicate};
 ghost use Rattle.std.specs.Prelude.{IfOk};
 ghost use Rattle.std.specs.List.{AllByRecursion};
-ghost use Rattle.span_algebra.specs.Normal.{IsRising};
-ghost use Rattle.simple_fluent.specs.Rows.{pairs, rows_of, IsInside, IsValueBelow};
+ghost use Rattle.span_algebra.specs.Normal.{IsRising, pairs};
+ghost use Rattle.simple_fluent.specs.Rows.{rows_of, IsInside, IsValueBelow};
 ghost use Rattle.simple_fluent.specs.Firsts.{least_with, RisesFrom, value_in};
 ghost use Rattle.simple_fluent.specs.Sweep.{started, after_point, next_of, is_same, terms_from};
 ghost use Rattle.simple_fluent.specs.Sweep.{terms_after, since_after, rows_after, CanPass};
@@ -49,6 +49,7 @@ fn rest_points(points: &[Point], at: Point) -> &[Point]
     }
 }
 
+// Whether both are the same value, or no value.
 #[inline]
 fn is_same(one: Option<usize>, two: Option<usize>) -> bool
     ensures { result ≡ is_same one two }
@@ -122,6 +123,7 @@ fn pass(
     }
 }
 
+// So many rows without a span.
 fn empty_rows(alloc: Global, count: usize) -> Result<Vec<Spans>, OutOfMemory>
     ensures { IfOk result (λ rows. rows.items ≡ replicate count []) }
 {

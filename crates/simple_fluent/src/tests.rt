@@ -1,92 +1,125 @@
 // What no clause says: that the call succeeds with ample memory, and the rows of worked examples.
-ghost use Rattle.std.specs.Prelude.{◌≡◌, IfOk};
+ghost use Rattle.std.specs.Prelude.{◌≡◌, length, map, IfOk};
+ghost use Rattle.std.specs.List.{AllByRecursion};
+ghost use Rattle.simple_fluent.specs.Rows.{IsInside, IsValueBelow};
 
 use super::*;
-use span_algebra::Span;
+use std::process::Abort;
 use std::test::Fail;
 
-fn points(alloc: Global, list: &[Point]) -> Result<Points, Fail>
-    ensures { IfOk result (λ points. points ≡ list.now) }
+// The points of each list.
+fn points_of(alloc: Global, lists: &[&[Point]]) -> Result<Vec<Points>, Fail>
+    ensures { IfOk result (λ all. all.items ≡ map (λ list. list.now) lists.now) }
 {
-    match Points::from_list(alloc, list) {
-        Ok(points) => Ok(points),
-        Err(_) => Err("no points".into()),
+    let mut all = Vec::new(alloc);
+    for list in lists {
+        let points = Points::from_list(alloc, list)?;
+        all.push(points)?;
     }
+    Ok(all)
 }
 
-fn span(after: Point, until: Point) -> Span {
-    Span { after, until }
-}
-
-// The spans of a value, or none if it has no row.
-fn row(rows: &[Spans], value: usize) -> &[Span] {
-    match rows.get(value) {
-        Some(row) => row.as_slice(),
-        None => &[],
+// The spans of each row, and a bar after it.
+fn text_of(alloc: Global, rows: &[Spans]) -> Result<String, Fail> {
+    let mut text = String::new(alloc);
+    for row in rows {
+        for span in row.as_slice() {
+            let part = format!(in alloc; "({}, {}]", span.after, span.until)?;
+            text.push_str(part.as_str())?;
+        }
+        text.push_str("|")?;
     }
+    Ok(text)
 }
 
-// A value goes on until it is terminated, or past the end of the window.
-#[test]
-fn a_value_goes_on_until_it_is_terminated(rt: HostRuntime) -> Result<(), Fail> {
-    let inits = [points(rt.alloc(), &[3, 9])?];
-    let terms = [points(rt.alloc(), &[7])?];
-    let rows = spans_of(rt.alloc(), None, &inits, &terms, 0, 10)?;
-    assert_eq!(rt; row(&rows, 0), [span(3, 7), span(9, 11)].as_slice());
+// The rows over the window (0, 10], from the points at which each value is initiated and
+// terminated.
+fn told(
+    alloc: Global,
+    opening: Option<Value>,
+    inits: &[&[Point]],
+    terms: &[&[Point]],
+) -> Result<String, Fail>
+    requires opening { IsValueBelow (length inits.now) opening }
+    requires count { length inits.now ≡ length terms.now }
+    requires inits { AllByRecursion (IsInside 0 10) (map (λ list. list.now) inits.now) }
+    requires terms { AllByRecursion (IsInside 0 10) (map (λ list. list.now) terms.now) }
+{
+    let inits = points_of(alloc, inits)?;
+    let terms = points_of(alloc, terms)?;
+    let rows = spans_of(alloc, opening, &inits, &terms, 0, 10)?;
+    text_of(alloc, &rows)
+}
+
+// The rows are told so.
+fn says(
+    rt: &impl Abort,
+    alloc: Global,
+    opening: Option<Value>,
+    inits: &[&[Point]],
+    terms: &[&[Point]],
+    wanted: &str,
+) -> Result<(), Fail>
+    requires opening { IsValueBelow (length inits.now) opening }
+    requires count { length inits.now ≡ length terms.now }
+    requires inits { AllByRecursion (IsInside 0 10) (map (λ list. list.now) inits.now) }
+    requires terms { AllByRecursion (IsInside 0 10) (map (λ list. list.now) terms.now) }
+{
+    let told = told(alloc, opening, inits, terms)?;
+    assert_eq!(rt; told.as_str(), wanted);
     Ok(())
 }
 
-// At a point at which both happen, the initiation counts.
 #[test]
-fn an_initiation_comes_before_a_termination(rt: HostRuntime) -> Result<(), Fail> {
-    let inits = [points(rt.alloc(), &[2, 5])?];
-    let terms = [points(rt.alloc(), &[5, 8])?];
-    let rows = spans_of(rt.alloc(), None, &inits, &terms, 0, 10)?;
-    assert_eq!(rt; row(&rows, 0), [span(2, 8)].as_slice());
-    Ok(())
+fn one_value_comes_and_goes(rt: HostRuntime) -> Result<(), Fail> {
+    // It goes on until it is terminated, or past the end of the window.
+    says(&rt, rt.alloc(), None, &[&[3, 9]], &[&[7]], "(3, 7](9, 11]|")?;
+
+    // At a point at which both happen, the initiation counts.
+    says(&rt, rt.alloc(), None, &[&[2, 5]], &[&[5, 8]], "(2, 8]|")?;
+    says(&rt, rt.alloc(), None, &[], &[], "")
 }
 
-// Of two values that are initiated at one point the first one counts.
 #[test]
-fn the_value_declared_first_wins(rt: HostRuntime) -> Result<(), Fail> {
-    let inits = [points(rt.alloc(), &[6])?, points(rt.alloc(), &[6])?];
-    let terms = [Points::new(rt.alloc()), Points::new(rt.alloc())];
-    let rows = spans_of(rt.alloc(), None, &inits, &terms, 0, 10)?;
-    assert_eq!(rt; row(&rows, 0), [span(6, 11)].as_slice());
-    assert_eq!(rt; row(&rows, 1), [].as_slice());
-    assert_eq!(rt; rows.len(), 2);
-    Ok(())
+fn two_values_break_each_other(rt: HostRuntime) -> Result<(), Fail> {
+    // Of two values that are initiated at one point the first one counts.
+    says(
+        &rt,
+        rt.alloc(),
+        None,
+        &[&[6], &[6]],
+        &[&[], &[]],
+        "(6, 11]||",
+    )?;
+
+    // An initiation of another value ends the one that holds, and a termination of another value
+    // does not.
+    says(
+        &rt,
+        rt.alloc(),
+        None,
+        &[&[2], &[6]],
+        &[&[8], &[4]],
+        "(2, 6]|(6, 11]|",
+    )
 }
 
-// An initiation of another value ends the one that holds, and a termination of another value does
-// not.
-#[test]
-fn a_value_breaks_another(rt: HostRuntime) -> Result<(), Fail> {
-    let inits = [points(rt.alloc(), &[2])?, points(rt.alloc(), &[6])?];
-    let terms = [points(rt.alloc(), &[8])?, points(rt.alloc(), &[4])?];
-    let rows = spans_of(rt.alloc(), None, &inits, &terms, 0, 10)?;
-    assert_eq!(rt; row(&rows, 0), [span(2, 6)].as_slice());
-    assert_eq!(rt; row(&rows, 1), [span(6, 11)].as_slice());
-    Ok(())
-}
-
-// The value at the start of the window goes on from there until it is terminated.
 #[test]
 fn the_value_at_the_start_goes_on(rt: HostRuntime) -> Result<(), Fail> {
-    let inits = [Points::new(rt.alloc()), Points::new(rt.alloc())];
-    let mut terms = [Points::new(rt.alloc()), Points::new(rt.alloc())];
-    let rows = spans_of(rt.alloc(), Some(1), &inits, &terms, 0, 10)?;
-    assert_eq!(rt; row(&rows, 0), [].as_slice());
-    assert_eq!(rt; row(&rows, 1), [span(0, 11)].as_slice());
-    terms[1] = points(rt.alloc(), &[4])?;
-    let rows = spans_of(rt.alloc(), Some(1), &inits, &terms, 0, 10)?;
-    assert_eq!(rt; row(&rows, 1), [span(0, 4)].as_slice());
-    Ok(())
-}
-
-#[test]
-fn no_value_has_no_row(rt: HostRuntime) -> Result<(), Fail> {
-    let rows = spans_of(rt.alloc(), None, &[], &[], 0, 10)?;
-    assert_eq!(rt; rows.len(), 0);
-    Ok(())
+    says(
+        &rt,
+        rt.alloc(),
+        Some(1),
+        &[&[], &[]],
+        &[&[], &[]],
+        "|(0, 11]|",
+    )?;
+    says(
+        &rt,
+        rt.alloc(),
+        Some(1),
+        &[&[], &[]],
+        &[&[], &[4]],
+        "|(0, 4]|",
+    )
 }

@@ -51,12 +51,12 @@ below_limit floor top None out within below = below
 below_limit floor top (Some a) out within below = below_more a top out below
     (omega (arith, within.1))
 
-open_beyond : (floor top t : ℕ) (begun : Option ℕ) → BeginsWithin floor top begun → top ≤ t
+pub open_beyond : (floor top t : ℕ) (begun : Option ℕ) → BeginsWithin floor top begun → top ≤ t
     → is_open begun t ≡ is_some begun
 open_beyond floor top t None within le = refl
 open_beyond floor top t (Some a) within le = grind (arith, nat_tests, within.1)
 
-within_more : (floor top more : ℕ) (begun : Option ℕ) → BeginsWithin floor top begun → top ≤ more
+pub within_more : (floor top more : ℕ) (begun : Option ℕ) → BeginsWithin floor top begun → top ≤ more
     → BeginsWithin floor more begun
 within_more floor top more None within le = tt
 within_more floor top more (Some a) within le = (within.0, omega (arith, within.1))
