@@ -6,11 +6,12 @@ use Rattle.span_algebra.specs.declared.spans.Span.{Span}
 use Rattle.span_algebra.specs.Normal.{IsNormal, IsNormalFrom, IsRising, IsRisingFrom}
 use Rattle.span_algebra.proofs.Covering.{covers_miss, covers_floor}
 use Rattle.span_algebra.proofs.Having.{has_floor}
-use Rattle.span_algebra.proofs.Numbers.{le_or_above}
+use Rattle.span_algebra.proofs.Parts.{rising_lower, rising_filter}
+use Rattle.rt_base.proofs.Numbers.{le_or_above}
 use Rattle.ground_types.specs.Members.{contains}
 use Rattle.ground_types.specs.Rows.{points}
 use Rattle.derived_event.specs.Happening.{is_start, is_end}
-use Rattle.derived_event.proofs.Rising.{rising_lower, rising_filter, points_by}
+use Rattle.derived_event.proofs.Rising.{points_by}
 
 afters_rise : (floor : ℕ) (xs : List Span) → IsNormalFrom floor xs
     → IsRisingFrom floor (map (λ s. s.after) xs)

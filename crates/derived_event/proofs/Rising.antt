@@ -1,58 +1,17 @@
--- Rising lists of points: what a filter leaves of one, and which of them are the points of a
--- window.
-use Rattle.std.proofs.Common.{◌≡◌, ◌⊎◌, inl, inr, ℕ, ◌+◌, ◌-◌, ◌<◌, ◌≤◌, Bool, true, false, cond}
-use Rattle.std.proofs.Common.{◌&&◌, ◌||◌, leb, ltb, eqb, List, [], ◌∷◌, filter, refl, sym, ◌∙◌, ap}
+-- Which rising lists of points are the points of a window.
+use Rattle.std.proofs.Common.{◌≡◌, ◌⊎◌, inl, inr, ℕ, ◌+◌, ◌-◌, ◌<◌, ◌≤◌, Bool, true, false}
+use Rattle.std.proofs.Common.{◌&&◌, leb, ltb, List, [], ◌∷◌, filter, refl, sym, ◌∙◌, ap}
 use Rattle.std.proofs.Common.{arith}
 use Rattle.std.specs.List.{range_with_len}
 use Rattle.std.proofs.lemmas.Bool.Decides.{nat_tests}
 use Rattle.span_algebra.specs.Normal.{IsRising, IsRisingFrom}
-use Rattle.span_algebra.proofs.Numbers.{le_or_above}
+use Rattle.rt_base.proofs.Numbers.{le_or_above}
+pub use Rattle.span_algebra.proofs.Parts.{rising_filter}
 use Rattle.ground_types.specs.Members.{contains}
 use Rattle.ground_types.specs.Rows.{points, ArePointsFrom}
 use Rattle.ground_types.proofs.Members.{contains_hit, and_left}
+pub use Rattle.ground_types.proofs.Members.{contains_filter}
 use Rattle.ground_types.proofs.Points.{points_are, points_unique}
-
-pub rising_lower : (floor less : ℕ) (xs : List ℕ) → IsRisingFrom floor xs → less ≤ floor
-    → IsRisingFrom less xs
-rising_lower floor less [] rising le = tt
-rising_lower floor less (p ∷ rest) rising le = (omega (arith, rising.0), rising.1)
-
-filtered_by : (floor p : ℕ) (rest : List ℕ) (b : Bool) → floor ≤ p → IsRisingFrom (p + 1) rest
-    → IsRisingFrom floor (cond b (p ∷ rest) rest)
-filtered_by floor p rest true le rising = (le, rising)
-filtered_by floor p rest false le rising = rising_lower (p + 1) floor rest rising (omega arith)
-
--- a filter leaves a rising list
-pub rising_filter : (test : ℕ → Bool) (floor : ℕ) (xs : List ℕ) → IsRisingFrom floor xs
-    → IsRisingFrom floor (filter test xs)
-rising_filter test floor [] rising = tt
-rising_filter test floor (p ∷ rest) rising = filtered_by floor p (filter test rest) (test p)
-    rising.0 (rising_filter test (p + 1) rest rising.1)
-
-and_false : (b : Bool) → (b && false) ≡ false
-and_false true = refl
-and_false false = refl
-
-kept_by : (test : ℕ → Bool) (p t : ℕ) (xs : List ℕ) (b c : Bool) → test p ≡ b → eqb p t ≡ c
-    → contains (filter test xs) t ≡ (test t && contains xs t) →
-    contains (cond b (p ∷ filter test xs) (filter test xs)) t ≡ (test t && (c || contains xs t))
-kept_by test p t xs true true is at go =
-    let same : p ≡ t = grind (arith, nat_tests) in
-    let yes : test t ≡ true = rw (← same) is in
-    rw (at, yes) refl
-kept_by test p t xs true false is at go = rw at go
-kept_by test p t xs false true is at go =
-    let same : p ≡ t = grind (arith, nat_tests) in
-    let no : test t ≡ false = rw (← same) is in
-    go ∙ rw no refl
-kept_by test p t xs false false is at go = go
-
--- a filter leaves the points that pass
-pub contains_filter : (test : ℕ → Bool) (xs : List ℕ) (t : ℕ) → contains (filter test xs) t
-    ≡ (test t && contains xs t)
-contains_filter test [] t = sym (and_false (test t))
-contains_filter test (p ∷ xs) t = kept_by test p t xs (test p) (eqb p t) refl refl
-    (contains_filter test xs t)
 
 points_from : (floor : ℕ) (xs : List ℕ) → IsRisingFrom floor xs → ArePointsFrom floor xs
 points_from floor [] rising = tt

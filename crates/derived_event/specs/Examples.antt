@@ -1,4 +1,5 @@
--- Starts and ends of small rows, computed: each equation holds by computation alone.
+-- Evidence for what public contracts speak by: starts and ends of small rows, computed. Each
+-- equation holds by computation alone.
 use Rattle.std.specs.Prelude.{◌≡◌, List, [], ◌∷◌, refl}
 use Rattle.ground_types.specs.Rows.{points}
 use Rattle.span_algebra.specs.declared.spans.Span.{Span}

@@ -1,4 +1,4 @@
--- The points at which a row starts and ends to hold.
+-- Public contracts speak by this: the points at which a row starts and ends to hold.
 use Rattle.std.specs.Prelude.{ℕ, ◌+◌, Bool, not, ◌&&◌, List}
 use Rattle.span_algebra.specs.Normal.{covers}
 use Rattle.span_algebra.specs.declared.spans.Span.{Span}

@@ -5,26 +5,26 @@ use std::test::Fail;
 
 #[test]
 fn rows_start_and_end(rt: HostRuntime) -> Result<(), Fail> {
-    let list = [
+    let spans = [
         Span { after: 3, until: 7 },
         Span {
             after: 9,
             until: 11,
         },
     ];
-    let row = Spans::from_list(rt.alloc(), &list)?;
-    let started = starts(rt.alloc(), &row, 0, 10)?;
-    assert_eq!(rt; started.as_slice(), [3, 9].as_slice());
-    let ended = ends(rt.alloc(), &row, 0, 10)?;
-    assert_eq!(rt; ended.as_slice(), [7].as_slice());
-    Ok(())
-}
 
-#[test]
-fn a_row_that_is_carried_in_does_not_start(rt: HostRuntime) -> Result<(), Fail> {
-    let row = Spans::from_list(rt.alloc(), &[Span { after: 3, until: 7 }])?;
-    let started = starts(rt.alloc(), &row, 3, 10)?;
-    assert!(rt; started.as_slice().is_empty());
+    // Spans and a left border, up to 10: where they start, and where they end. What is carried in
+    // does not start.
+    let rows = [
+        (spans.as_slice(), 0, [3, 9].as_slice(), [7].as_slice()),
+        (&spans[..1], 3, &[], &[7]),
+    ];
+    for (spans, w, starting, ending) in rows {
+        let row = Spans::from_list(rt.alloc(), spans)?;
+        let started = starts(rt.alloc(), &row, w, 10)?;
+        let ended = ends(rt.alloc(), &row, w, 10)?;
+        assert_eq!(rt; (started.as_slice(), ended.as_slice()), (starting, ending));
+    }
     Ok(())
 }
 
