@@ -5,7 +5,8 @@ use Rattle.std.proofs.Common.{false, cond, ◌&&◌, ◌||◌, leb, ltb, eqb, Li
 use Rattle.std.proofs.Common.{sym, ◌∙◌, ap, arith, subst}
 use Rattle.std.proofs.Math.Bool.{or_assoc, or-false}
 use Rattle.std.proofs.lemmas.Bool.Decides.{nat_tests}
-use Rattle.rt_base.proofs.Numbers.{le_or_above, equal_from_bounds}
+pub use Rattle.rt_base.proofs.Numbers.{le_or_above}
+use Rattle.rt_base.proofs.Numbers.{equal_from_bounds}
 use Rattle.ground_types.specs.Rows.{with_point, runs, row, IsRisingFrom, covers, IsRowByPoints}
 
 pub covers_hit : (s : ℕ × ℕ) (rest : List (ℕ × ℕ)) (t : ℕ) → s.0 < t → t ≤ s.1
@@ -204,10 +205,6 @@ pub record AreRuns (test : ℕ → Bool) (w n : ℕ) (spans : List (ℕ × ℕ))
   pub up_to : IsUpTo (w + n) spans
   pub each : (t : ℕ) → covers spans t ≡ (ltb w t && leb t (w + n) && test t)
 
--- no point lies after w and up to it
-none_after : (w t : ℕ) (b : Bool) → false ≡ (ltb w t && leb t (w + 0) && b)
-none_after w t b = grind (arith, nat_tests)
-
 last_true : (w n t : ℕ) (b : Bool) → (t ≡ w + suc n → b ≡ true) →
     ((ltb w t && leb t (w + n) && b) || eqb t (w + n + 1)) ≡ (ltb w t && leb t (w + suc n) && b)
 last_true w n t true at = grind (arith, nat_tests)
@@ -238,7 +235,7 @@ runs_more test w n xs false is old =
     }
 
 pub runs_are : (test : ℕ → Bool) (w n : ℕ) → AreRuns test w n (runs test w n)
-runs_are test w zero = record { rising = tt; up_to = tt; each = λ t. none_after w t (test t) }
+runs_are test w zero = record { rising = tt; up_to = tt; each = λ t. grind (arith, nat_tests) }
 runs_are test w (suc n) = runs_more test w n (runs test w n) (test (w + suc n)) refl
     (runs_are test w n)
 

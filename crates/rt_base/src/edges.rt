@@ -50,12 +50,11 @@ impl<F: Read + Seek> OpenFile<F> {
     }
 
     // Reads on. A reader may leave anything behind the bytes that it read, so they are copied from
-    // a buffer of its own. That lies on the stack, so that no memory can be refused.
-    fn read(&mut self, into: &mut [u8]) -> Option<usize>
+    // a buffer of its own.
+    fn read(&mut self, buffer: &mut [u8], into: &mut [u8]) -> Option<usize>
         ensures some { IfSome result (λ n. FillsFront n into.old into.new) }
         ensures none { IfNone result (into.new ≡ into.old) }
     {
-        let mut buffer = [0; 65536];
         let most = into.len().min(buffer.len());
         let count = self.file.read(&mut buffer[..most]).ok()?;
         into[..count].copy_from_slice(&buffer[..count]);
@@ -68,11 +67,13 @@ impl<F: Read + Seek> OpenFile<F> {
 /// see of it, is the count of faults of every name.
 ///
 /// The file that was read last stays open, unless its name is longer than 255 bytes: to read on in
-/// it takes one call of the system. A read gives 64 KiB at most.
+/// it takes one call of the system. A read gives 64 KiB at most, by way of a buffer that lies in
+/// the value itself, so that no memory can be refused.
 #[derive(Drop)]
 pub struct FileInputs<R: Files + Clone + Drop> {
     rt: R,
     last: Option<OpenFile<R::File>>,
+    buffer: [u8; 65536],
     faults: u64,
 }
 
@@ -92,6 +93,7 @@ impl<R: Files + Clone + Drop> FileInputs<R> {
         FileInputs {
             rt,
             last: None,
+            buffer: [0; 65536],
             faults: 0,
         }
     }
@@ -121,6 +123,7 @@ fn open<R: Files>(
 fn read_file<R: Files>(
     rt: &R,
     last: &mut Option<OpenFile<R::File>>,
+    buffer: &mut [u8],
     name: &str,
     at: u64,
     into: &mut [u8],
@@ -130,7 +133,7 @@ fn read_file<R: Files>(
 {
     let mut file = open(rt, last.take(), name)?;
     file.seek(at)?;
-    let count = file.read(into)?;
+    let count = file.read(buffer, into)?;
     *last = Some(file);
     Some(count)
 }
@@ -141,7 +144,7 @@ impl<R: Files + Clone + Drop> Inputs for FileInputs<R> {
     ghost faults = { λ faults name. faults };
 
     fn read_at(&mut self, name: &str, at: u64, into: &mut [u8]) -> Result<usize, Failed> {
-        match read_file(&self.rt, &mut self.last, name, at, into) {
+        match read_file(&self.rt, &mut self.last, &mut self.buffer, name, at, into) {
             Some(count) => Ok(count),
             None => {
                 self.faults = self.faults.saturating_add(1);
