@@ -11,6 +11,9 @@ use Rattle.rt_base.proofs.Numbers.{le_or_above}
 use Rattle.ground_types.specs.Members.{contains}
 use Rattle.ground_types.specs.Rows.{points}
 use Rattle.derived_event.specs.Happening.{is_start, is_end}
+use Rattle.derived_event.specs.Borders.{border_of}
+use Rattle.derived_event.specs.declared.happening.Border.{Border}
+use Rattle.derived_event.specs.declared.happening.Border.TheVariants.{After, Until}
 use Rattle.derived_event.proofs.Rising.{points_by}
 
 afters_rise : (floor : ℕ) (xs : List Span) → IsNormalFrom floor xs
@@ -96,24 +99,25 @@ untils_are floor [] t normal = refl
 untils_are floor (s ∷ rest) t normal = untils_by floor s rest t normal (le_or_above t s.until)
     (untils_are (s.until + 1) rest t normal.2)
 
+borders_rise : (border : Border) (row : List Span) → IsNormal row
+    → IsRising (map (border_of border) row)
+borders_rise After row normal = afters_rise 0 row normal
+borders_rise Until row normal = untils_rise 0 row normal
+
+-- those in a window rise too
+pub borders_in_rise : (border : Border) (row : List Span) (w q : ℕ) → IsNormal row
+    → IsRising (filter (λ p. ltb w p && leb p q) (map (border_of border) row))
+borders_in_rise border row w q normal = rising_filter (λ p. ltb w p && leb p q) 0
+    (map (border_of border) row) (borders_rise border row normal)
+
 pub starts_are : (row : List Span) (w q : ℕ) → IsNormal row →
-    filter (λ p. ltb w p && leb p q) (map (λ s. s.after) row) ≡ points (is_start row) w q
+    filter (λ p. ltb w p && leb p q) (map (border_of After) row) ≡ points (is_start row) w q
 starts_are row w q normal =
-    points_by (is_start row) w q (map (λ s. s.after) row) (afters_rise 0 row normal)
+    points_by (is_start row) w q (map (border_of After) row) (borders_rise After row normal)
     (λ t. afters_are 0 row t normal)
 
-pub starts_rise : (row : List Span) (w q : ℕ) → IsNormal row
-    → IsRising (filter (λ p. ltb w p && leb p q) (map (λ s. s.after) row))
-starts_rise row w q normal = rising_filter (λ p. ltb w p && leb p q) 0 (map (λ s. s.after) row)
-    (afters_rise 0 row normal)
-
 pub ends_are : (row : List Span) (w q : ℕ) → IsNormal row →
-    filter (λ p. ltb w p && leb p q) (map (λ s. s.until) row) ≡ points (is_end row) w q
+    filter (λ p. ltb w p && leb p q) (map (border_of Until) row) ≡ points (is_end row) w q
 ends_are row w q normal =
-    points_by (is_end row) w q (map (λ s. s.until) row) (untils_rise 0 row normal)
+    points_by (is_end row) w q (map (border_of Until) row) (borders_rise Until row normal)
     (λ t. untils_are 0 row t normal)
-
-pub ends_rise : (row : List Span) (w q : ℕ) → IsNormal row
-    → IsRising (filter (λ p. ltb w p && leb p q) (map (λ s. s.until) row))
-ends_rise row w q normal = rising_filter (λ p. ltb w p && leb p q) 0 (map (λ s. s.until) row)
-    (untils_rise 0 row normal)

@@ -1,6 +1,0 @@
-use Rattle.std.proofs.Common.{◌≡◌, ◌&&◌, leb, ltb, filter, map, take}
-use Rattle.derived_event.proofs.happening.ends.Given as goal
-
-abbrev pub invariant-loop-span : goal.invariant-loop-span
-invariant-loop-span l = l.found.items ≡ filter (λ p. ltb l.w p && leb p l.q)
-    (map (λ s. s.until) (take l.span-index l.span-items))
