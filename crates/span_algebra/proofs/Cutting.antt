@@ -4,7 +4,7 @@ use Rattle.std.proofs.Common.{[], ◌∷◌, ◌++◌, filter, Some, None, refl,
 use Rattle.std.proofs.Common.{append_assoc, append-nil}
 use Rattle.span_algebra.specs.declared.spans.Span.{Span}
 use Rattle.span_algebra.specs.Normal.{IsNormal, IsRising, IsRisingFrom, covers}
-use Rattle.span_algebra.specs.Walk.{span_of, rest_of, front_of, after_front}
+use Rattle.span_algebra.specs.Walk.{front_of, after_front}
 use Rattle.span_algebra.proofs.Parts.{rising_lower}
 use Rattle.span_algebra.proofs.Covering.{covers_hit, covers_miss, covers_floor, normal_lower}
 
@@ -81,8 +81,8 @@ cutting_end within points spans ps out c (inr is) =
 -- the same, from what the calls of one turn ensure
 pub turn_span : (within : List Span) (points : List ℕ) (spans : List Span) (ps out : List ℕ)
     (s : Span) (p : ℕ) →
-    IsCutting within points spans ps out → Some p ≡ front_of ps → Some s ≡ span_of spans
-    → s.until < p → IsCutting within points (rest_of spans) ps out
+    IsCutting within points spans ps out → Some p ≡ front_of ps → Some s ≡ front_of spans
+    → s.until < p → IsCutting within points (after_front spans) ps out
 turn_span within points [] ps out s p c at is lt = cc
 turn_span within points (x ∷ xs) [] out s p c at is lt = cc
 turn_span within points (x ∷ xs) (y ∷ ys) out s p c at is lt =
@@ -92,7 +92,7 @@ turn_span within points (x ∷ xs) (y ∷ ys) out s p c at is lt =
 
 pub turn_take : (within : List Span) (points : List ℕ) (spans : List Span) (ps out : List ℕ)
     (s : Span) (p : ℕ) →
-    IsCutting within points spans ps out → Some p ≡ front_of ps → Some s ≡ span_of spans
+    IsCutting within points spans ps out → Some p ≡ front_of ps → Some s ≡ front_of spans
     → p ≤ s.until → s.after < p →
     IsCutting within points spans (after_front ps) (out ++ p ∷ [])
 turn_take within points [] ps out s p c at is le lt = cc
@@ -105,7 +105,7 @@ turn_take within points (x ∷ xs) (y ∷ ys) out s p c at is le lt =
 
 pub turn_leave : (within : List Span) (points : List ℕ) (spans : List Span) (ps out : List ℕ)
     (s : Span) (p : ℕ) →
-    IsCutting within points spans ps out → Some p ≡ front_of ps → Some s ≡ span_of spans
+    IsCutting within points spans ps out → Some p ≡ front_of ps → Some s ≡ front_of spans
     → p ≤ s.after →
     IsCutting within points spans (after_front ps) out
 turn_leave within points [] ps out s p c at is le = cc
@@ -115,10 +115,6 @@ turn_leave within points (x ∷ xs) (y ∷ ys) out s p c at is le =
     let point : p ≡ y = cc in
     cut_leave within points x xs y ys out c (rw (← span, ← point) le)
 
-pub no_point : (ps : List ℕ) → None ≡ front_of ps → ps ≡ []
-no_point [] is = refl
-no_point (p ∷ ps) is = cc
-
-pub no_span : (xs : List Span) → None ≡ span_of xs → xs ≡ []
-no_span [] is = refl
-no_span (x ∷ xs) is = cc
+pub no_front : {X : Type 0} (xs : List X) → None ≡ front_of xs → xs ≡ []
+no_front [] is = refl
+no_front (x ∷ xs) is = cc

@@ -1,8 +1,10 @@
 -- The first item that breaks a rule.
 use Rattle.std.proofs.Common.{◌≡◌, ℕ, zero, suc, ◌+◌, ◌-◌, ◌<◌, ◌≤◌, List, [], ◌∷◌, length, get_or}
-use Rattle.std.proofs.Common.{take, refl, arith, subst}
+use Rattle.std.proofs.Common.{◌↔◌, take, refl, arith, subst, Result, Err}
 use Rattle.span_algebra.specs.Normal.{IsNormal, IsNormalFrom, IsRising, IsRisingFrom, IsFirstBad}
 use Rattle.span_algebra.specs.declared.spans.Span.{Span}
+use Rattle.span_algebra.specs.declared.refused.ListRefused.{ListRefused}
+use Rattle.span_algebra.specs.declared.refused.ListRefused.TheVariants.{NotNormal}
 use Rattle.rt_base.proofs.Numbers.{equal_from_bounds}
 
 -- what holds of a list holds of its fronts
@@ -32,6 +34,26 @@ first_bad_unique Rule xs p q fronts one two =
 pub no_first_bad : {X : Type 0} (Rule : List X → Type 0) (xs : List X) (p : ℕ) → IsOfFronts Rule
     → Rule xs → IsFirstBad Rule xs p → ⊥
 no_first_bad Rule xs p fronts rule bad = bad.here (fronts (p + 1) xs rule)
+
+-- a list is refused at its first bad item, and at no other
+pub refused_at : {X T : Type 0} (Rule : List X → Type 0) (xs : List X) (p place : ℕ)
+    → IsOfFronts Rule → IsFirstBad Rule xs p →
+    (let at : Result T ListRefused = Err (NotNormal p) in at ≡ Err (NotNormal place))
+    ↔ IsFirstBad Rule xs place
+refused_at Rule xs p place fronts bad = (
+  λ is. (let same : p ≡ place = cc in subst (IsFirstBad Rule xs) same bad),
+  λ other. (let same : p ≡ place = first_bad_unique Rule xs p place fronts bad other in cc),
+)
+
+-- and at none where it keeps the rule
+pub refused_nowhere : {X T : Type 0} (Rule : List X → Type 0) (xs : List X) (place : ℕ)
+    (result : Result T ListRefused) → IsOfFronts Rule → Rule xs →
+    (result ≡ Err (NotNormal place) → ⊥) → (result ≡ Err (NotNormal place))
+    ↔ IsFirstBad Rule xs place
+refused_nowhere Rule xs place result fronts rule not = (
+  λ is. absurd (not is),
+  λ bad. absurd (no_first_bad Rule xs place fronts rule bad),
+)
 
 normal_fronts : (floor n : ℕ) (xs : List Span) → IsNormalFrom floor xs
     → IsNormalFrom floor (take n xs)

@@ -64,23 +64,14 @@ left_of true (s ∷ rest) = s.until ∷ borders rest
 abbrev pub borders_of : Cursor → List ℕ
 borders_of c = left_of c.inside c.left.now
 
--- the first of some points, and those after it
-abbrev pub front_of : List ℕ → Option ℕ
+-- the first of some items, and those after it
+abbrev pub front_of : {X : Type 0} → List X → Option X
 front_of [] = None
-front_of (p ∷ rest) = Some p
+front_of (x ∷ rest) = Some x
 
-abbrev pub after_front : List ℕ → List ℕ
+abbrev pub after_front : {X : Type 0} → List X → List X
 after_front [] = []
-after_front (p ∷ rest) = rest
-
--- the first of some spans, and those after it
-abbrev pub span_of : List Span → Option Span
-span_of [] = None
-span_of (s ∷ rest) = Some s
-
-abbrev pub rest_of : List Span → List Span
-rest_of [] = []
-rest_of (s ∷ rest) = rest
+after_front (x ∷ rest) = rest
 
 -- the lesser border comes first
 abbrev pub by_border : Cursor → Cursor → Ordering

@@ -1,52 +1,30 @@
 // Points cut by spans.
 ghost use Rattle.std.specs.Prelude.{◌≡◌, filter, IfOk};
 ghost use Rattle.span_algebra.specs.Normal.{covers};
-ghost use Rattle.span_algebra.specs.Walk.{front_of, after_front, span_of, rest_of};
+ghost use Rattle.span_algebra.specs.Walk.{front_of, after_front};
 
-use crate::{Point, Points, Span, Spans};
+use crate::{Points, Spans};
 use rt_base::OutOfMemory;
 use std::alloc::Global;
 
-// The first of the points.
+// The first of some items.
 #[inline]
-fn first_point(points: &[Point]) -> Option<Point>
-    ensures { result ≡ front_of points.now }
+fn first<T: Copy>(items: &[T]) -> Option<T>
+    ensures { result ≡ front_of items.now }
 {
-    match points {
+    match items {
         [] => None,
-        [point, ..] => Some(*point),
+        [item, ..] => Some(*item),
     }
 }
 
-// The points after the first.
+// The items after the first.
 #[inline]
-fn rest_points(points: &[Point]) -> &[Point]
-    ensures { result.now ≡ after_front points.now }
+fn rest<T>(items: &[T]) -> &[T]
+    ensures { result.now ≡ after_front items.now }
 {
-    match points {
-        [] => points,
-        [_, rest @ ..] => rest,
-    }
-}
-
-// The first of the spans.
-#[inline]
-fn first_span(spans: &[Span]) -> Option<Span>
-    ensures { result ≡ span_of spans.now }
-{
-    match spans {
-        [] => None,
-        [span, ..] => Some(*span),
-    }
-}
-
-// The spans after the first.
-#[inline]
-fn rest_spans(spans: &[Span]) -> &[Span]
-    ensures { result.now ≡ rest_of spans.now }
-{
-    match spans {
-        [] => spans,
+    match items {
+        [] => items,
         [_, rest @ ..] => rest,
     }
 }
@@ -59,14 +37,14 @@ pub fn cut_points(alloc: Global, points: &Points, within: &Spans) -> Result<Poin
     let mut out = Vec::new(alloc);
     let mut points_left = points.as_slice();
     let mut spans_left = within.as_slice();
-    'cut: while let (Some(point), Some(span)) = (first_point(points_left), first_span(spans_left)) {
+    'cut: while let (Some(point), Some(span)) = (first(points_left), first(spans_left)) {
         if span.until < point {
-            spans_left = rest_spans(spans_left);
+            spans_left = rest(spans_left);
         } else {
             if span.after < point {
                 out.push(point)?;
             }
-            points_left = rest_points(points_left);
+            points_left = rest(points_left);
         }
     }
     Ok(Points::of(alloc, out))

@@ -1,6 +1,5 @@
 use Rattle.std.proofs.Common.{inl, inr, sym, ◌∙◌}
-use Rattle.span_algebra.proofs.Cutting.{turn_span, turn_take, turn_leave, cutting_end, no_point}
-use Rattle.span_algebra.proofs.Cutting.{no_span}
+use Rattle.span_algebra.proofs.Cutting.{turn_span, turn_take, turn_leave, cutting_end, no_front}
 use Rattle.span_algebra.proofs.Parts.{rising_filter}
 use Rattle.span_algebra.proofs.cut.cut_points.Goals as goal
 use Rattle.span_algebra.proofs.cut.cut_points.Goals.{then-span-point-2+in_ok-push}
@@ -9,13 +8,13 @@ use Rattle.span_algebra.proofs.cut.cut_points.Goals.{in_default, in_default-2}
 
 pub cut-preserved-then-span-point : goal.cut-preserved-then-span-point
 cut-preserved-then-span-point c =
-    rw c.rest_spans-spans_left.ensures
+    rw c.rest-spans_left.ensures
     (turn_span _ _ _ _ _ _ _ c.cut.invariant c.in-Some-Some.ensures c.in-Some-Some.ensures'
     c.if-span-point.true)
 
 pub cut-preserved : goal.cut-preserved
 cut-preserved c =
-    rw c.rest_points-points_left.ensures
+    rw c.rest-points_left.ensures
     (elim c.if-span-point-2.branch [
       | then-span-point-2+in_ok-push w ↦ rw (w.out-is, w.in_ok-push.ensures.items)
           (turn_take _ _ _ _ _ _ _ c.cut.invariant c.in-Some-Some.ensures c.in-Some-Some.ensures'
@@ -25,19 +24,19 @@ cut-preserved c =
     ])
 
 pub of-requires : goal.of-requires
-of-requires c = elim c.match-first_point.branch [
+of-requires c = elim c.match-first.branch [
   | in_default w ↦ rw (cutting_end _ _ _ _ _ c.cut.invariant
-      (inr (no_span _ (sym w.in_default.is-1 ∙ c.first_span.ensures))))
+      (inr (no_front _ (sym w.in_default.is-1 ∙ c.first-in-cut.ensures))))
       (rising_filter _ 0 c.args.points.now c.as_slice-points_left.ensures.rising)
   | in_default-2 w ↦ rw (cutting_end _ _ _ _ _ c.cut.invariant
-      (inl (no_point _ (sym w.in_default.is-0 ∙ c.first_point.ensures))))
+      (inl (no_front _ (sym w.in_default.is-0 ∙ c.first.ensures))))
       (rising_filter _ 0 c.args.points.now c.as_slice-points_left.ensures.rising)
 ]
 
 pub returns : goal.returns
-returns c = elim c.match-first_point.branch [
+returns c = elim c.match-first.branch [
   | in_default w ↦ c.of.ensures ∙ cutting_end _ _ _ _ _ c.cut.invariant
-      (inr (no_span _ (sym w.in_default.is-1 ∙ c.first_span.ensures)))
+      (inr (no_front _ (sym w.in_default.is-1 ∙ c.first-in-cut.ensures)))
   | in_default-2 w ↦ c.of.ensures ∙ cutting_end _ _ _ _ _ c.cut.invariant
-      (inl (no_point _ (sym w.in_default.is-0 ∙ c.first_point.ensures)))
+      (inl (no_front _ (sym w.in_default.is-0 ∙ c.first.ensures)))
 ]
