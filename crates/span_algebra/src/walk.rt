@@ -21,6 +21,19 @@ pub(crate) enum Test {
     Exactly(usize),
 }
 
+impl Test {
+    // Whether so many lists pass it.
+    #[inline]
+    fn answer(self, held: Held) -> bool
+        ensures { result ≡ answer_of self held.wanted held.barred }
+    {
+        match self {
+            Test::SomeAndNone => 0 < held.wanted && held.barred == 0,
+            Test::Exactly(count) => held.wanted == count,
+        }
+    }
+}
+
 // How many lists that are wanted hold, and how many that are barred.
 #[derive(Clone, Copy)]
 pub(crate) struct Held {
@@ -28,43 +41,35 @@ pub(crate) struct Held {
     barred: usize,
 }
 
-// Whether so many lists pass the test.
-#[inline]
-fn answer(test: Test, held: Held) -> bool
-    ensures { result ≡ answer_of test held.wanted held.barred }
-{
-    match test {
-        Test::SomeAndNone => 0 < held.wanted && held.barred == 0,
-        Test::Exactly(count) => held.wanted == count,
-    }
-}
-
-// One more of the lists holds, or one fewer.
-#[inline]
-fn held_past(held: Held, cursor: &Cursor<'_>) -> Held
-    requires less { (side : Side) → one_on side cursor.now.inside cursor.now.side ≤ held_on side
-        held }
-    requires more { (side : Side) → held_on side held + 1 < 2 ^ 64 }
-    ensures { (side : Side) → held_on side result + one_on side cursor.now.inside cursor.now.side
-        ≡ held_on side held + one_on side (not cursor.now.inside) cursor.now.side }
-{
-    match (cursor.side, cursor.inside) {
-        (Side::Wanted, false) => Held {
-            wanted: held.wanted + 1,
-            ..held
-        },
-        (Side::Wanted, true) => Held {
-            wanted: held.wanted - 1,
-            ..held
-        },
-        (Side::Barred, false) => Held {
-            barred: held.barred + 1,
-            ..held
-        },
-        (Side::Barred, true) => Held {
-            barred: held.barred - 1,
-            ..held
-        },
+impl Held {
+    // One more of the lists holds, or one fewer.
+    #[inline]
+    fn past(self, cursor: &Cursor<'_>) -> Held
+        requires less { (side : Side) → one_on side cursor.now.inside cursor.now.side ≤ held_on side
+            self }
+        requires more { (side : Side) → held_on side self + 1 < 2 ^ 64 }
+        ensures { (side : Side) → held_on side result + one_on side cursor.now.inside
+            cursor.now.side
+            ≡ held_on side self + one_on side (not cursor.now.inside) cursor.now.side }
+    {
+        match (cursor.side, cursor.inside) {
+            (Side::Wanted, false) => Held {
+                wanted: self.wanted + 1,
+                ..self
+            },
+            (Side::Wanted, true) => Held {
+                wanted: self.wanted - 1,
+                ..self
+            },
+            (Side::Barred, false) => Held {
+                barred: self.barred + 1,
+                ..self
+            },
+            (Side::Barred, true) => Held {
+                barred: self.barred - 1,
+                ..self
+            },
+        }
     }
 }
 
@@ -174,10 +179,10 @@ pub(crate) fn walk(
         barred: 0,
     };
     'walk: while let Some(cursor) = cursors.pop() {
-        held = held_past(held, &cursor);
+        held = held.past(&cursor);
         put_back(&mut cursors, cursor)?;
         if !stands_at(&cursors, cursor.at) {
-            begun = pass(&mut out, begun, answer(test, held), cursor.at)?;
+            begun = pass(&mut out, begun, test.answer(held), cursor.at)?;
         }
     }
     Ok(Spans::of(alloc, out))

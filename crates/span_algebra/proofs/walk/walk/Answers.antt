@@ -11,13 +11,13 @@ walk-init c = rw c.new-out.ensures.items (
       refl refl,
 )
 
-pub held_past-held-requires-clause-less : goal.held_past-held-requires-clause-less
-held_past-held-requires-clause-less c =
+pub past-held-requires-clause-less : goal.past-held-requires-clause-less
+past-held-requires-clause-less c =
     held_some _ _ _ _ _ _ _ _ (taken_out _ _ _ _ _ _ _ _ _ c.walk.invariant.1
     c.in-Some.ensures.permutation c.in-Some.ensures.top c.in-Some.ensures.below_top)
 
-pub held_past-held-requires-clause-more : goal.held_past-held-requires-clause-more
-held_past-held-requires-clause-more c = λ side.
+pub past-held-requires-clause-more : goal.past-held-requires-clause-more
+past-held-requires-clause-more c = λ side.
     let few = held_few _ _ _ _ _ _ _ c.walk.invariant.1 side in
     omega (arith, few, c.walk.cursors.data.ok, c.walk.cursors.data.small)
 
@@ -25,20 +25,20 @@ pub walk-smaller-then-not-stands_at : goal.walk-smaller-then-not-stands_at
 walk-smaller-then-not-stands_at c = turned_fewer _ _ _ _ _ _ _ _ _ _ _ c.walk.invariant.1
     (turn_is _ _ _ _ _ _ c.in-Some.ensures.permutation c.in-Some.ensures.top
     c.in-Some.ensures.heap_order c.in-Some.ensures.below_top
-    c.in_ok-put_back.ensures.ordered c.in_ok-put_back.ensures.passed c.held_past-held.ensures)
+    c.in_ok-put_back.ensures.ordered c.in_ok-put_back.ensures.passed c.past-held.ensures)
 
 pub walk-smaller : goal.walk-smaller
 walk-smaller c = turned_fewer _ _ _ _ _ _ _ _ _ _ _ c.walk.invariant.1
     (turn_is _ _ _ _ _ _ c.in-Some.ensures.permutation c.in-Some.ensures.top
     c.in-Some.ensures.heap_order c.in-Some.ensures.below_top
-    c.in_ok-put_back.ensures.ordered c.in_ok-put_back.ensures.passed c.held_past-held.ensures)
+    c.in_ok-put_back.ensures.ordered c.in_ok-put_back.ensures.passed c.past-held.ensures)
 
 pub walk-preserved-then-not-stands_at : goal.walk-preserved-then-not-stands_at
 walk-preserved-then-not-stands_at c =
     let on = turned_on _ _ _ _ _ _ _ _ _ _ _ c.walk.invariant.1
     (turn_is _ _ _ _ _ _ c.in-Some.ensures.permutation c.in-Some.ensures.top
     c.in-Some.ensures.heap_order c.in-Some.ensures.below_top
-    c.in_ok-put_back.ensures.ordered c.in_ok-put_back.ensures.passed c.held_past-held.ensures) in (
+    c.in_ok-put_back.ensures.ordered c.in_ok-put_back.ensures.passed c.past-held.ensures) in (
       c.in-Some.cursor.at + 1,
       rw (c.in_ok-begun.ensures.out, c.in_ok-begun.ensures.begun, c.answer.ensures)
           (settled _ _ _ _ _ _ _ on (sym c.stands_at.ensures.front ∙ c.if-not-stands_at.true)
@@ -50,7 +50,7 @@ walk-preserved c =
     let on = turned_on _ _ _ _ _ _ _ _ _ _ _ c.walk.invariant.1
     (turn_is _ _ _ _ _ _ c.in-Some.ensures.permutation c.in-Some.ensures.top
     c.in-Some.ensures.heap_order c.in-Some.ensures.below_top
-    c.in_ok-put_back.ensures.ordered c.in_ok-put_back.ensures.passed c.held_past-held.ensures) in (
+    c.in_ok-put_back.ensures.ordered c.in_ok-put_back.ensures.passed c.past-held.ensures) in (
       c.in-Some.cursor.at,
       pending _ _ _ _ _ _ _ on (sym c.stands_at.ensures.front
           ∙ c.if-not-stands_at.false),

@@ -1,6 +1,6 @@
 use Rattle.std.proofs.Common.{arith}
 use Rattle.span_algebra.specs.declared.cursor.Side.TheVariants.{Wanted, Barred}
-use Rattle.span_algebra.proofs.walk.held_past.Goals as goal
+use Rattle.span_algebra.proofs.walk.Held.past.Goals as goal
 
 pub overflow_sub-result : goal.overflow_sub-result
 overflow_sub-result c = grind (
