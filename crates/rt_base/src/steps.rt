@@ -16,6 +16,7 @@ struct Tally {
     last: Turn,
 }
 
+// What was done last to a counter.
 #[cycle(tally)]
 #[derive(Drop)]
 enum Turn {

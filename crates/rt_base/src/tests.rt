@@ -59,6 +59,7 @@ fn a_sink_takes_pieces_until_its_room_is_full(rt: HostRuntime) -> Result<(), Fai
 // Two files: a short one, and one of more than a piece, whose bytes count up to 250 and begin anew.
 const NAMES: [&str; 2] = ["rt_base_short.txt", "rt_base_long.txt"];
 
+// Writes both.
 fn write_files(rt: &HostRuntime) -> Result<(), Fail> {
     let mut bytes = Vec::new(rt.alloc());
     for place in 0..70000u32 {
@@ -69,6 +70,7 @@ fn write_files(rt: &HostRuntime) -> Result<(), Fail> {
     Ok(())
 }
 
+// Takes both away again.
 fn remove_files(rt: &HostRuntime) -> Result<(), Fail> {
     for name in NAMES {
         fs::remove_file(rt, name)?;

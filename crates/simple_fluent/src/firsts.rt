@@ -10,9 +10,9 @@ use std::alloc::{AllocError, Global};
 
 // A point, and the first value that is initiated there.
 #[derive(Clone, Copy)]
-pub struct First {
-    pub at: Point,
-    pub value: usize,
+pub(crate) struct First {
+    pub(crate) at: Point,
+    pub(crate) value: usize,
 }
 
 // The front of a list.
@@ -28,7 +28,7 @@ fn first_of(firsts: &[First]) -> Option<First>
 
 // The list without the point at its front.
 #[inline]
-pub fn rest_firsts(firsts: &[First], at: Point) -> &[First]
+pub(crate) fn rest_firsts(firsts: &[First], at: Point) -> &[First]
     ensures { result.now ≡ past_first firsts.now at }
 {
     match firsts {
@@ -86,7 +86,11 @@ fn of_one(alloc: Global, points: &[Point], value: usize) -> Result<Vec<First>, A
 }
 
 // The points of all values, counted from this one on. They are merged by halves.
-pub fn gather(alloc: Global, inits: &[Points], from: usize) -> Result<Vec<First>, OutOfMemory>
+pub(crate) fn gather(
+    alloc: Global,
+    inits: &[Points],
+    from: usize,
+) -> Result<Vec<First>, OutOfMemory>
     requires { from + length inits.now < 2 ^ 64 }
     ensures rises { IfOk result (λ out. RisesFrom 0 out.items) }
     ensures each { IfOk result (λ out. (t : ℕ) → value_in out.items t ≡ least_with from inits.now

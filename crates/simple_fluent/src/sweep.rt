@@ -136,7 +136,7 @@ fn empty_rows(alloc: Global, count: usize) -> Result<Vec<Spans>, OutOfMemory>
 
 // The rows, from the first value initiated at each point. The span that is open at the end of the
 // window goes on to the last value point.
-pub fn sweep(
+pub(crate) fn sweep(
     alloc: Global,
     opening: Option<usize>,
     inits: &[Points],

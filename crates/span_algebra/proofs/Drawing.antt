@@ -56,7 +56,8 @@ pub open_beyond : (floor top t : ℕ) (begun : Option ℕ) → BeginsWithin floo
 open_beyond floor top t None within le = refl
 open_beyond floor top t (Some a) within le = grind (arith, nat_tests, within.1)
 
-pub within_more : (floor top more : ℕ) (begun : Option ℕ) → BeginsWithin floor top begun → top ≤ more
+pub within_more : (floor top more : ℕ) (begun : Option ℕ) → BeginsWithin floor top begun
+    → top ≤ more
     → BeginsWithin floor more begun
 within_more floor top more None within le = tt
 within_more floor top more (Some a) within le = (within.0, omega (arith, within.1))
