@@ -4,6 +4,7 @@ use Rattle.std.proofs.Common.{◌∷◌, Option, None, Some, if◌then◌else◌
 use Rattle.std.specs.Option.{unwrap_or}
 use Rattle.std.specs.Map.{lookup, set_value}
 use Rattle.std.proofs.lemmas.Bool.{eqb-true}
+use Rattle.std.proofs.lemmas.Option.{same_Some}
 use Rattle.std.proofs.lemmas.Bool.Decides.{nat_tests}
 use Rattle.ground_types.specs.Touched.{differs}
 use Rattle.span_algebra.specs.Normal.{has}
@@ -11,9 +12,6 @@ use Rattle.event_store.specs.Standing.{Kept, Events, standing, changed, stood}
 
 turned : (a b : ℕ) → eqb a b ≡ eqb b a
 turned a b = grind (arith, nat_tests)
-
-same_some : {A : Type 0} {x y : A} → Some x ≡ Some y → x ≡ y
-same_some {A} {x} e = ap (λ r. unwrap_or r x) e
 
 -- what is kept of an event that was never told
 abbrev pub nothing : Kept
@@ -91,7 +89,7 @@ module _ (event : ℕ) where
       by : (b : Bool) → Some k ≡ cond b (Some e.1) (lookup (eqb event) rest)
           → (Some k ≡ lookup (eqb event) rest → set_value (eqb event) rest k ≡ rest)
           → cond b ((e.0, k) ∷ rest) (e ∷ set_value (eqb event) rest k) ≡ e ∷ rest
-      by true found later = ap (λ p. (e.0, p) ∷ rest) (same_some found)
+      by true found later = ap (λ p. (e.0, p) ∷ rest) (same_Some k e.1 found)
       by false found later = ap (λ es. e ∷ es) (later found)
 
   -- what another is kept of this event, and of each other the same

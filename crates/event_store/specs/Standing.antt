@@ -1,4 +1,5 @@
--- Which events stand where, and which did when the store was settled last.
+-- Public contracts speak by this: which events stand where, and which did when the store was
+-- settled last.
 use Rattle.std.specs.Prelude.{ℕ, Bool, ◌==◌, if◌then◌else◌, List, [], ◌∷◌}
 use Rattle.ground_types.specs.Touched.{differs}
 use Rattle.span_algebra.specs.Normal.{has}
