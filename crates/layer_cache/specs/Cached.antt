@@ -1,4 +1,4 @@
--- The rows of the units of a program.
+-- Public contracts speak by this: the rows of the units of a program.
 use Rattle.std.specs.Prelude.{ℕ, ◌^◌, nat_lt, List, [], map, replicate, slice_get, position}
 use Rattle.std.specs.Prelude.{if◌then◌else◌, Option, Some, None}
 use Rattle.span_algebra.specs.Normal.{covers}

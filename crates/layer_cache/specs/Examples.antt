@@ -1,4 +1,5 @@
--- Evidence that the definitions say what is meant: it holds by computation alone.
+-- No contract speaks by this: evidence, by computation alone, that the definitions say what is
+-- meant.
 use Rattle.std.specs.Prelude.{◌≡◌, [], ◌∷◌, None, Some, refl}
 use Rattle.ground_types.specs.Examples.{alarm}
 use Rattle.span_algebra.specs.declared.rows.UnitRows.{UnitRows}

@@ -1,4 +1,4 @@
--- What a cache holds.
+-- Public contracts speak by this: what a cache holds.
 use Rattle.std.specs.Prelude.{List}
 use Rattle.span_algebra.specs.declared.rows.UnitRows.{UnitRows}
 

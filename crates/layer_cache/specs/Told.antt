@@ -1,4 +1,4 @@
--- What rows say.
+-- Public contracts speak by this: what rows say.
 use Rattle.std.specs.Prelude.{ℕ, Bool, false, List, slice_get, Option, None, Some}
 use Rattle.ground_types.specs.Truth.{Table}
 use Rattle.span_algebra.specs.Normal.{covers, has}

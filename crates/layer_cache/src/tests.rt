@@ -1,53 +1,51 @@
 // What no clause says: that a cache is made with ample memory, what a unit has as it was put, and
 // the values with which windows open.
-ghost use Rattle.std.specs.Prelude.{◌≡◌, length, IfOk};
+ghost use Rattle.std.specs.Prelude.{◌≡◌, length, IfOk, OnOk};
 
-use crate::Cache;
-use ground_types::{Name, NameKind, Plan, Program, Unit, UnitKind};
+use crate::{Cache, value_row};
+use ground_types::{Name, NameKind, Plan, Point, Program, Unit, UnitKind};
 use rt_base::{List, Word};
 use span_algebra::{Points, Span, Spans, UnitRows};
 use std::alloc::Global;
 use std::test::Fail;
 
-// A fluent of the values low and high and a derived event.
+// A name of some values; a derived event has none.
+fn name(alloc: Global, word: &str, kind: NameKind, values: &[&str]) -> Result<Name, Fail> {
+    let mut words = Vec::new(alloc);
+    for value in values {
+        words.push(Word::new(alloc, value)?)?;
+    }
+    Ok(Name {
+        word: Word::new(alloc, word)?,
+        kind,
+        args: List::of(Vec::new(alloc)),
+        values: List::of(words),
+        first: 0,
+        line: 1,
+    })
+}
+
+// A unit without rules.
+fn unit(alloc: Global, name: u32, kind: UnitKind) -> Unit {
+    Unit {
+        name,
+        args: List::of(Vec::new(alloc)),
+        kind,
+    }
+}
+
+// The gear, a fluent of the values low and high, and the alarm, a derived event.
 fn program(alloc: Global) -> Result<Program, Fail>
     ensures { IfOk result (λ program. length program.units ≡ 2) }
 {
-    let mut values = Vec::new(alloc);
-    values.push(Word::new(alloc, "low")?)?;
-    values.push(Word::new(alloc, "high")?)?;
-    let mut names = Vec::new(alloc);
-    names.push(Name {
-        word: Word::new(alloc, "gear")?,
-        kind: NameKind::Simple,
-        args: List::of(Vec::new(alloc)),
-        values: List::of(values),
-        first: 0,
-        line: 1,
-    })?;
-    names.push(Name {
-        word: Word::new(alloc, "alarm")?,
-        kind: NameKind::Derived,
-        args: List::of(Vec::new(alloc)),
-        values: List::of(Vec::new(alloc)),
-        first: 1,
-        line: 2,
-    })?;
-    let mut units = Vec::new(alloc);
-    units.push(Unit {
-        name: 0,
-        args: List::of(Vec::new(alloc)),
-        kind: UnitKind::Simple {
-            initially: None,
-            initiate: List::of(Vec::new(alloc)),
-            terminate: List::of(Vec::new(alloc)),
-        },
-    })?;
-    units.push(Unit {
-        name: 1,
-        args: List::of(Vec::new(alloc)),
-        kind: UnitKind::Derived(List::of(Vec::new(alloc))),
-    })?;
+    let gear = name(alloc, "gear", NameKind::Simple, &["low", "high"])?;
+    let alarm = name(alloc, "alarm", NameKind::Derived, &[])?;
+    let simple = UnitKind::Simple {
+        initially: None,
+        initiate: List::of(Vec::new(alloc)),
+        terminate: List::of(Vec::new(alloc)),
+    };
+    let derived = UnitKind::Derived(List::of(Vec::new(alloc)));
     Ok(Program {
         plan: Plan {
             window: 10,
@@ -56,98 +54,133 @@ fn program(alloc: Global) -> Result<Program, Fail>
             queries: 1,
         },
         domains: List::of(Vec::new(alloc)),
-        names: List::of(names),
-        units: List::of(units),
+        names: List::of(vec![in alloc; gear, alarm]?),
+        units: List::of(vec![in alloc; unit(alloc, 0, simple), unit(alloc, 1, derived)]?),
         layers: List::of(Vec::new(alloc)),
         events: 0,
     })
 }
 
-// Two rows of one span each.
-fn rows(alloc: Global, low: Span, high: Span) -> Result<UnitRows, Fail> {
-    let mut rows = Vec::new(alloc);
-    rows.push(Spans::from_list(alloc, &[low])?)?;
-    rows.push(Spans::from_list(alloc, &[high])?)?;
-    Ok(UnitRows::Fluent(List::of(rows)))
+// One call of a cache.
+#[derive(Clone, Copy)]
+enum Call {
+    // Puts a span for each value of the gear.
+    Gear(Span, Span),
+    // Puts a point of the derived event.
+    Alarm(Point),
+    Turn,
 }
 
-// The first row of a fluent; None of an event.
-fn first_row(rows: &UnitRows) -> Option<&[Span]> {
-    match rows {
-        UnitRows::Fluent(rows) => rows.as_slice().first().map(Spans::as_slice),
-        UnitRows::Event(_) => None,
-    }
+// Rows of one span each.
+fn rows(alloc: Global, low: Span, high: Span) -> Result<UnitRows, Fail> {
+    let low = Spans::from_list(alloc, &[low])?;
+    let high = Spans::from_list(alloc, &[high])?;
+    Ok(UnitRows::Fluent(List::of(vec![in alloc; low, high]?)))
 }
+
+fn make(alloc: Global, cache: &mut Cache, call: Call) -> Result<(), Fail>
+    requires rows { length cache.old.rows ≡ 2 }
+    requires before { length cache.old.before ≡ 2 }
+    ensures rows { OnOk result (length cache.new.rows ≡ 2) }
+    ensures before { OnOk result (length cache.new.before ≡ 2) }
+{
+    match call {
+        Call::Gear(low, high) => cache.put_row(0, rows(alloc, low, high)?),
+        Call::Alarm(at) => cache.put_row(1, UnitRows::Event(Points::from_list(alloc, &[at])?)),
+        Call::Turn => cache.turn(),
+    }
+    Ok(())
+}
+
+// The rows of the program after some calls.
+fn after(alloc: Global, calls: &[Call]) -> Result<Cache, Fail>
+    ensures rows { IfOk result (λ cache. length cache.rows ≡ 2) }
+    ensures before { IfOk result (λ cache. length cache.before ≡ 2) }
+{
+    let program = program(alloc)?;
+    let mut cache = Cache::new(alloc, &program)?;
+    for call in calls {
+        make(alloc, &mut cache, *call)?;
+    }
+    Ok(cache)
+}
+
+// The spans of a fluent's first value; None of an event.
+fn first_row(rows: &UnitRows) -> Option<&[Span]> {
+    value_row(rows, 0).map(Spans::as_slice)
+}
+
+// The first row of the gear, now and before, and that of the alarm, after some calls.
+fn told(alloc: Global, calls: &[Call]) -> Result<String, Fail> {
+    let cache = after(alloc, calls)?;
+    let now = first_row(cache.row(0));
+    let before = first_row(cache.old_row(0));
+    let alarm = first_row(cache.row(1));
+    Ok(format!(in alloc; "{now:?} {before:?} {alarm:?}")?)
+}
+
+const LOW: Span = Span { after: 3, until: 7 };
+
+const HIGH: Span = Span {
+    after: 6,
+    until: 11,
+};
+
+const LOW_ALONE: &str = "Some([Span { after: 3, until: 7 }]) Some([]) None";
+
+const LOW_BEFORE: &str = "Some([]) Some([Span { after: 3, until: 7 }]) None";
 
 #[test]
 fn a_unit_has_the_rows_that_were_put_last(rt: HostRuntime) -> Result<(), Fail> {
-    let alloc = rt.alloc();
-    let program = program(alloc)?;
-    let mut cache = Cache::new(alloc, &program)?;
-    assert_eq!(rt; first_row(cache.row(0)), Some([].as_slice()));
-    assert_eq!(rt; first_row(cache.row(1)), None);
-    let span = Span { after: 3, until: 7 };
-    let mut rows = Vec::new(alloc);
-    rows.push(Spans::from_list(alloc, &[span])?)?;
-    cache.put_row(0, UnitRows::Fluent(List::of(rows)));
-    assert_eq!(rt; first_row(cache.row(0)), Some([span].as_slice()));
-    cache.put_row(1, UnitRows::Event(Points::from_list(alloc, &[4])?));
-    assert_eq!(rt; first_row(cache.row(0)), Some([span].as_slice()));
-    let rows = cache.into_rows();
-    assert_eq!(rt; rows.as_slice().len(), 2);
-    assert_eq!(rt;
-        rows.as_slice().first().and_then(first_row),
-        Some([span].as_slice())
-    );
+    use Call::{Alarm, Gear, Turn};
+    let table = [
+        ([].as_slice(), "Some([]) Some([]) None"),
+        (&[Gear(LOW, HIGH)], LOW_ALONE),
+        (&[Gear(HIGH, LOW), Gear(LOW, HIGH)], LOW_ALONE),
+        (&[Gear(LOW, HIGH), Alarm(4)], LOW_ALONE),
+        // A turn gives the rows before.
+        (&[Gear(LOW, HIGH), Turn], LOW_BEFORE),
+        (&[Gear(LOW, HIGH), Turn, Turn], LOW_ALONE),
+    ];
+    for (calls, wanted) in table {
+        let found = told(rt.alloc(), calls)?;
+        assert_eq!(rt; found.as_str(), wanted);
+    }
     Ok(())
 }
 
 #[test]
-fn a_turn_gives_the_rows_before(rt: HostRuntime) -> Result<(), Fail> {
-    let alloc = rt.alloc();
-    let program = program(alloc)?;
-    let mut cache = Cache::new(alloc, &program)?;
-    let low = Span { after: 3, until: 7 };
-    let high = Span {
-        after: 7,
-        until: 11,
-    };
-    cache.put_row(0, rows(alloc, low, high)?);
-    assert_eq!(rt; first_row(cache.old_row(0)), Some([].as_slice()));
-    cache.turn();
-    assert_eq!(rt; first_row(cache.old_row(0)), Some([low].as_slice()));
-    assert_eq!(rt; first_row(cache.row(0)), Some([].as_slice()));
+fn a_cache_gives_the_rows_of_all_units(rt: HostRuntime) -> Result<(), Fail> {
+    let rows = after(rt.alloc(), &[Call::Gear(LOW, HIGH), Call::Alarm(4)])?.into_rows();
+    let first = rows.as_slice().first().and_then(first_row);
+    assert_eq!(rt; (rows.as_slice().len(), first), (2, Some([LOW].as_slice())));
     Ok(())
+}
+
+// The values with which windows of the two units open at a point, after some calls.
+fn openings(alloc: Global, calls: &[Call], at: Point) -> Result<(Option<u32>, Option<u32>), Fail> {
+    let cache = after(alloc, calls)?;
+    Ok((cache.opening(0, at), cache.opening(1, at)))
 }
 
 // A window opens with the value that held in the rows before, the first of two; not with one of the
 // rows as they are now, and a derived event has none.
 #[test]
 fn a_window_opens_with_the_first_value_before(rt: HostRuntime) -> Result<(), Fail> {
-    let alloc = rt.alloc();
-    let program = program(alloc)?;
-    let mut cache = Cache::new(alloc, &program)?;
-    let low = Span { after: 3, until: 7 };
-    let high = Span {
-        after: 6,
-        until: 11,
-    };
-    cache.put_row(0, rows(alloc, low, high)?);
-    cache.put_row(1, UnitRows::Event(Points::from_list(alloc, &[4])?));
-    assert_eq!(rt; cache.opening(0, 4), None);
-    cache.turn();
-    let table: [(u32, Option<u32>); 6] = [
-        (3, None),
-        (4, Some(0)),
-        (7, Some(0)),
-        (8, Some(1)),
-        (11, Some(1)),
-        (12, None),
+    use Call::{Alarm, Gear, Turn};
+    let put = [Gear(LOW, HIGH), Alarm(4)];
+    let turned = [Gear(LOW, HIGH), Alarm(4), Turn];
+    let table: [(&[Call], u64, Option<u32>); 7] = [
+        (&put, 4, None),
+        (&turned, 3, None),
+        (&turned, 4, Some(0)),
+        (&turned, 7, Some(0)),
+        (&turned, 8, Some(1)),
+        (&turned, 11, Some(1)),
+        (&turned, 12, None),
     ];
-    for (at, want) in table {
-        let found = cache.opening(0, u64::from(at));
-        assert_eq!(rt; found, want, "at {at}");
+    for (calls, at, wanted) in table {
+        assert_eq!(rt; openings(rt.alloc(), calls, at)?, (wanted, None), "at {at}");
     }
-    assert_eq!(rt; cache.opening(1, 4), None);
     Ok(())
 }
