@@ -2,7 +2,6 @@
 use Rattle.std.proofs.Common.{◌≡◌, ℕ, ◌+◌, ◌<◌, ◌≤◌, nat_lt, zero, suc, arith, Bool, true, not}
 use Rattle.std.proofs.Common.{◌&&◌, ◌||◌, ◌==◌, List, [], ◌∷◌, get_or, map, length, refl, sym, ap}
 use Rattle.std.proofs.Common.{ap₂, ◌∙◌}
-use Rattle.std.proofs.Math.Bool.{or-false, and-true}
 use Rattle.std.proofs.lemmas.Bool.Decides.{nat_tests}
 use Rattle.std.proofs.lemmas.List.Folds.{list_all-append, list_all-map}
 use Rattle.std.specs.List.{list_any, list_all}
@@ -12,7 +11,7 @@ use Rattle.ground_types.specs.Meaning.{units_of_expr, units_of_members}
 use Rattle.ground_types.specs.Sound.{member_count}
 use Rattle.std.specs.Cmp.Derive.{both_true}
 use Rattle.ground_types.specs.declared.program.Expr as expr
-use Rattle.ground_types.proofs.Members.{and_left, and_right}
+use Rattle.std.proofs.lemmas.Bool.{and_parts}
 use Rattle.static_fluent.specs.Constructs.{has_members, all_have_members, has_rows}
 
 -- ---- lists that agree, item by item
@@ -29,20 +28,6 @@ same_any p f g xs ys same = any_mapped p f xs ∙ ap (list_any p) same ∙ sym (
 pub same_all : {X Y Z : Type 0} (p : Z → Bool) (f : X → Z) (g : Y → Z) (xs : List X) (ys : List Y)
     → map f xs ≡ map g ys → list_all (λ x. p (f x)) xs ≡ list_all (λ y. p (g y)) ys
 same_all p f g xs ys same = sym (list_all-map p f xs) ∙ ap (list_all p) same ∙ list_all-map p g ys
-
-pub one_item : {X : Type 0} (xs : List X) (x : X) → 1 ≤ length xs → length xs < 2
-    → x ≡ get_or xs 0 x → xs ≡ x ∷ []
-one_item [] x some few is = absurd (omega arith)
-one_item (y ∷ []) x some few is = ap (λ z. z ∷ []) (sym is)
-one_item (y ∷ z ∷ xs) x some few is = absurd (omega arith)
-
-pub any_of_one : {X : Type 0} (p : X → Bool) (x : X) (xs : List X) → xs ≡ x ∷ []
-    → p x ≡ list_any p xs
-any_of_one p x xs is = sym (or-false (p x)) ∙ ap (list_any p) (sym is)
-
-pub all_of_one : {X : Type 0} (p : X → Bool) (x : X) (xs : List X) → xs ≡ x ∷ []
-    → p x ≡ list_all p xs
-all_of_one p x xs is = sym (and-true (p x)) ∙ ap (list_all p) (sym is)
 
 -- ---- the members of an expression
 
@@ -155,31 +140,41 @@ pub intersect_needs : (n : ℕ) (v : Vec expr.Expr) → has_rows n (expr.Interse
     (list_all (has_rows n) v.items ≡ true) × (list_all has_members v.items ≡ true)
 intersect_needs n v rows members = (
   sym (union_units (λ unit. nat_lt unit n) v) ∙ rows,
-  and_right (not (length v.items == 0))
-      (list_all has_members v.items) (sym (intersect_members v) ∙ members),
+  (and_parts (not (length v.items == 0)) (list_all has_members v.items) (sym (intersect_members v)
+      ∙ members)).1,
 )
 
 pub intersect_some : (v : Vec expr.Expr) → has_members (expr.Intersect v) ≡ true
     → 0 < length v.items
-intersect_some v members = some (length v.items) (and_left (not (length v.items == 0))
-    (list_all has_members v.items) (sym (intersect_members v) ∙ members))
+intersect_some v members = some (length v.items) (and_parts (not (length v.items == 0))
+    (list_all has_members v.items) (sym (intersect_members v) ∙ members)).0
+
+pub first_needs : (n : ℕ) (b : _) (v : Vec expr.Expr) → has_rows n (expr.Complement b v) ≡ true
+    → has_members (expr.Complement b v) ≡ true →
+    (has_rows n b.value ≡ true) × (has_members b.value ≡ true)
+first_needs n b v rows members = (
+  (and_parts (has_rows n b.value) (list_all (has_rows n) v.items)
+      (sym (complement_units (λ unit. nat_lt unit n) b v) ∙ rows)).0,
+  (and_parts (has_members b.value) (list_all has_members v.items) (sym (complement_members b v)
+      ∙ members)).0,
+)
 
 pub others_need : (n : ℕ) (b : _) (v : Vec expr.Expr) → has_rows n (expr.Complement b v) ≡ true
     → has_members (expr.Complement b v) ≡ true →
     (list_all (has_rows n) v.items ≡ true) × (list_all has_members v.items ≡ true)
 others_need n b v rows members = (
-  and_right (has_rows n b.value) (list_all (has_rows n) v.items)
-      (sym (complement_units (λ unit. nat_lt unit n) b v) ∙ rows),
-  and_right (has_members b.value) (list_all has_members v.items) (sym (complement_members b v)
-      ∙ members),
+  (and_parts (has_rows n b.value) (list_all (has_rows n) v.items)
+      (sym (complement_units (λ unit. nat_lt unit n) b v) ∙ rows)).1,
+  (and_parts (has_members b.value) (list_all has_members v.items) (sym (complement_members b v)
+      ∙ members)).1,
 )
 
 pub each_needs : (p : expr.Expr → Bool) (es : List expr.Expr) (i : ℕ) (d : expr.Expr)
     → i < length es → list_all p es ≡ true → p (get_or es i d) ≡ true
 each_needs p [] i d within all = absurd (omega arith)
-each_needs p (e ∷ es) zero d within all = and_left (p e) (list_all p es) all
+each_needs p (e ∷ es) zero d within all = (and_parts (p e) (list_all p es) all).0
 each_needs p (e ∷ es) (suc i) d within all = each_needs p es i d (omega arith)
-    (and_right (p e) (list_all p es) all)
+    (and_parts (p e) (list_all p es) all).1
 
 -- ---- how many constructs and rows an expression has
 

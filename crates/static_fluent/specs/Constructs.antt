@@ -1,13 +1,10 @@
--- What an expression needs, and what one comes to.
-use Rattle.std.specs.Prelude.{ℕ, nat_lt, Bool, true, not, ◌&&◌, ◌==◌, List}
+-- Public contracts speak by this: what an expression needs.
+use Rattle.std.specs.Prelude.{ℕ, nat_lt, Bool, true, not, ◌&&◌, ◌==◌}
 use Rattle.std.specs.List.{list_all}
 use Rattle.ground_types.specs.Meaning.{units_of_expr}
 use Rattle.ground_types.specs.Sound.{member_count}
 use Rattle.ground_types.specs.declared.program.Expr.{Expr, Row, Union', Intersect', Complement'}
 use Rattle.ground_types.specs.declared.program.Expr.{Row_of-Expr, end_of-Expr, more_of-Expr}
-use Rattle.span_algebra.specs.declared.spans.Span.{Span}
-use Rattle.static_fluent.specs.declared.rows.Member.{Member}
-use Rattle.static_fluent.specs.declared.rows.Member.TheVariants.{Lent, Made}
 
 -- the units that an expression names are among so many
 abbrev pub has_rows : ℕ → Expr → Bool
@@ -25,8 +22,3 @@ abbrev mutual
   pub all_have_members : {m : _} → Row_of-Expr m → Bool
   all_have_members end_of-Expr = true
   all_have_members (more_of-Expr member rest) = has_members member && all_have_members rest
-
--- the spans of a row that is lent, or of a list that was made
-abbrev pub spans_in : Member → List Span
-spans_in (Lent spans) = spans.now
-spans_in (Made spans) = spans

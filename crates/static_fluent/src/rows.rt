@@ -1,12 +1,12 @@
 // The rows of expressions.
-ghost use Rattle.std.specs.Prelude.{◌≡◌, ◌<◌, ◌&&◌, not, nat_lt, ℕ, true, false, map, length};
+ghost use Rattle.std.specs.Prelude.{◌≡◌, ◌<◌, ◌&&◌, not, ℕ, true, false, map, length};
 ghost use Rattle.std.specs.Prelude.{slice_get, IfOk, IfSome, IfNone};
 ghost use Rattle.std.specs.List.{list_any, list_all};
 ghost use Rattle.ground_types.specs.Truth.{expr_holds};
-ghost use Rattle.ground_types.specs.Meaning.{units_of_expr};
 ghost use Rattle.layer_cache.specs.Told.{told, fluent_has};
 ghost use Rattle.span_algebra.specs.Normal.{IsNormal, covers};
-ghost use Rattle.static_fluent.specs.Constructs.{has_members, has_rows, spans_in};
+ghost use Rattle.static_fluent.specs.Constructs.{has_members, has_rows};
+ghost use Rattle.static_fluent.specs.Evaluated.{spans_in};
 
 use ground_types::{Expr, UnitId, Value};
 use layer_cache::{Cache, value_row};
@@ -33,6 +33,7 @@ fn member_of(alloc: Global, cache: &Cache, unit: UnitId, value: Value) -> Member
     }
 }
 
+// The spans of a member.
 fn spans_in<'m>(member: &'m Member<'_>) -> &'m Spans
     ensures { result.now ≡ spans_in member.now }
 {
@@ -53,6 +54,7 @@ fn lent<'m>(alloc: Global, members: &'m [Member<'_>]) -> Result<Vec<&'m Spans>, 
     Ok(lists)
 }
 
+// The points that some member has.
 fn united(alloc: Global, members: &[Member<'_>]) -> Result<Spans, OutOfMemory>
     ensures { IfOk result (λ out. (t : ℕ) → covers out t ≡ list_any (λ m. covers (spans_in m) t)
         members.now) }
@@ -62,6 +64,7 @@ fn united(alloc: Global, members: &[Member<'_>]) -> Result<Spans, OutOfMemory>
     Ok(out)
 }
 
+// The points that every member has.
 fn shared(alloc: Global, members: &[Member<'_>]) -> Result<Spans, OutOfMemory>
     requires { 0 < length members.now }
     ensures { IfOk result (λ out. (t : ℕ) → covers out t ≡ list_all (λ m. covers (spans_in m) t)
@@ -72,6 +75,7 @@ fn shared(alloc: Global, members: &[Member<'_>]) -> Result<Spans, OutOfMemory>
     Ok(out)
 }
 
+// The points of the first member that no other has.
 fn left_over(alloc: Global, first: &Member<'_>, others: &[Member<'_>]) -> Result<Spans, OutOfMemory>
     ensures { IfOk result (λ out. (t : ℕ) → covers out t ≡ (covers (spans_in first.now) t
         && not (list_any (λ m. covers (spans_in m) t) others.now))) }
@@ -91,28 +95,73 @@ fn evaluate<'a>(alloc: Global, expr: &Expr, cache: &'a Cache) -> Result<Member<'
 {
     match expr {
         Expr::Row(unit, value) => Ok(member_of(alloc, cache, *unit, *value)),
-        Expr::Union(exprs) => match exprs.as_slice() {
-            [only] => evaluate(alloc, only, cache),
-            exprs => {
-                let members = evaluate_all(alloc, exprs, cache)?;
-                Ok(Member::Made(united(alloc, members.as_slice())?))
-            }
-        },
-        Expr::Intersect(exprs) => match exprs.as_slice() {
-            [only] => evaluate(alloc, only, cache),
-            exprs => {
-                let members = evaluate_all(alloc, exprs, cache)?;
-                Ok(Member::Made(shared(alloc, members.as_slice())?))
-            }
-        },
-        Expr::Complement(first, exprs) => {
-            let first = evaluate(alloc, first, cache)?;
-            let others = evaluate_all(alloc, exprs, cache)?;
-            Ok(Member::Made(left_over(alloc, &first, others.as_slice())?))
-        }
+        Expr::Union(exprs) => evaluate_any(alloc, exprs.as_slice(), cache),
+        Expr::Intersect(exprs) => evaluate_each(alloc, exprs.as_slice(), cache),
+        Expr::Complement(first, exprs) => evaluate_rest(alloc, first, exprs.as_slice(), cache),
     }
 }
 
+// What a union of expressions comes to: the member where it is the only one.
+#[cycle(evaluation)]
+fn evaluate_any<'a>(
+    alloc: Global,
+    exprs: &[Expr],
+    cache: &'a Cache,
+) -> Result<Member<'a>, OutOfMemory>
+    requires rows { list_all (has_rows (length cache.now.rows)) exprs.now ≡ true }
+    requires members { list_all has_members exprs.now ≡ true }
+    ensures { IfOk result (λ member. (t : ℕ) → covers (spans_in member) t
+        ≡ list_any (λ expr. expr_holds (told cache.now.rows) expr t) exprs.now) }
+{
+    if let [only] = exprs {
+        return evaluate(alloc, only, cache);
+    }
+    let members = evaluate_all(alloc, exprs, cache)?;
+    Ok(Member::Made(united(alloc, members.as_slice())?))
+}
+
+// What an intersection of expressions comes to: the member where it is the only one.
+#[cycle(evaluation)]
+fn evaluate_each<'a>(
+    alloc: Global,
+    exprs: &[Expr],
+    cache: &'a Cache,
+) -> Result<Member<'a>, OutOfMemory>
+    requires some { 0 < length exprs.now }
+    requires rows { list_all (has_rows (length cache.now.rows)) exprs.now ≡ true }
+    requires members { list_all has_members exprs.now ≡ true }
+    ensures { IfOk result (λ member. (t : ℕ) → covers (spans_in member) t
+        ≡ list_all (λ expr. expr_holds (told cache.now.rows) expr t) exprs.now) }
+{
+    if let [only] = exprs {
+        return evaluate(alloc, only, cache);
+    }
+    let members = evaluate_all(alloc, exprs, cache)?;
+    Ok(Member::Made(shared(alloc, members.as_slice())?))
+}
+
+// What an expression comes to without the points of others.
+#[cycle(evaluation)]
+fn evaluate_rest<'a>(
+    alloc: Global,
+    first: &Expr,
+    others: &[Expr],
+    cache: &'a Cache,
+) -> Result<Member<'a>, OutOfMemory>
+    requires first_rows { has_rows (length cache.now.rows) first.now ≡ true }
+    requires first_members { has_members first.now ≡ true }
+    requires rows { list_all (has_rows (length cache.now.rows)) others.now ≡ true }
+    requires members { list_all has_members others.now ≡ true }
+    ensures { IfOk result (λ member. (t : ℕ) → covers (spans_in member) t
+        ≡ (expr_holds (told cache.now.rows) first.now t
+        && not (list_any (λ expr. expr_holds (told cache.now.rows) expr t) others.now))) }
+{
+    let first = evaluate(alloc, first, cache)?;
+    let others = evaluate_all(alloc, others, cache)?;
+    Ok(Member::Made(left_over(alloc, &first, others.as_slice())?))
+}
+
+// What each of some expressions comes to.
 #[cycle(evaluation)]
 fn evaluate_all<'a>(
     alloc: Global,
@@ -148,8 +197,7 @@ fn owned(member: Member<'_>) -> Result<Spans, OutOfMemory>
 /// that member, and every other construct walks once over the borders of its members and makes one
 /// list. A row that is the whole answer is copied. The one error is want of memory.
 pub fn spans_of_expr(alloc: Global, expr: &Expr, cache: &Cache) -> Result<Spans, OutOfMemory>
-    requires rows { list_all (λ unit. nat_lt unit (length cache.now.rows)) (units_of_expr expr.now)
-        ≡ true }
+    requires rows { has_rows (length cache.now.rows) expr.now ≡ true }
     requires members { has_members expr.now ≡ true }
     ensures each { IfOk result (λ spans. (t : ℕ) → covers spans t
         ≡ expr_holds (told cache.now.rows) expr.now t) }

@@ -4,7 +4,7 @@ ghost use Rattle.std.specs.List.{list_all};
 ghost use Rattle.static_fluent.specs.Constructs.{has_rows, has_members};
 
 use crate::spans_of_expr;
-use ground_types::{Expr, Name, NameKind, Plan, Program, Unit, UnitId, UnitKind, Value};
+use ground_types::{Expr, Name, NameKind, Plan, Point, Program, Unit, UnitKind};
 use layer_cache::Cache;
 use rt_base::{List, Word};
 use span_algebra::{Points, Span, Spans, UnitRows};
@@ -12,17 +12,31 @@ use std::alloc::Global;
 use std::test::Fail;
 
 // The declaration of a fluent.
-fn fluent(alloc: Global, word: &str, first: u32, values: Vec<Word>) -> Result<Name, Fail> {
+fn name(alloc: Global, word: &str, values: &[&str]) -> Result<Name, Fail> {
+    let mut words = Vec::new(alloc);
+    for value in values {
+        words.push(Word::new(alloc, value)?)?;
+    }
     Ok(Name {
         word: Word::new(alloc, word)?,
         kind: NameKind::Simple,
         args: List::of(Vec::new(alloc)),
-        values: List::of(values),
-        first,
+        values: List::of(words),
+        first: 0,
         line: 1,
     })
 }
 
+// The declarations of some fluents.
+fn names(alloc: Global, declared: &[(&str, &[&str])]) -> Result<Vec<Name>, Fail> {
+    let mut names = Vec::new(alloc);
+    for (word, values) in declared {
+        names.push(name(alloc, word, values)?)?;
+    }
+    Ok(names)
+}
+
+// A fluent without rules.
 fn unit(alloc: Global, name: u32) -> Unit {
     Unit {
         name,
@@ -35,20 +49,16 @@ fn unit(alloc: Global, name: u32) -> Unit {
     }
 }
 
-// The fluents gear, of the values low and high, heat and alarm.
-fn program(alloc: Global) -> Result<Program, Fail>
-    ensures { IfOk result (λ program. length program.units ≡ 3) }
+// Empty rows for the fluents gear, of the values low and high, heat and alarm.
+fn empty(alloc: Global) -> Result<Cache, Fail>
+    ensures { IfOk result (λ cache. length cache.rows ≡ 3) }
 {
-    let values = vec![in alloc; Word::new(alloc, "low")?, Word::new(alloc, "high")?]?;
-    let gear = fluent(alloc, "gear", 0, values)?;
-    let heat = fluent(alloc, "heat", 1, vec![in alloc; Word::new(alloc, "true")?]?)?;
-    let alarm = fluent(
-        alloc,
-        "alarm",
-        2,
-        vec![in alloc; Word::new(alloc, "true")?]?,
-    )?;
-    Ok(Program {
+    let declared: [(&str, &[&str]); 3] = [
+        ("gear", &["low", "high"]),
+        ("heat", &["true"]),
+        ("alarm", &["true"]),
+    ];
+    let program = Program {
         plan: Plan {
             window: 10,
             step: 5,
@@ -56,30 +66,26 @@ fn program(alloc: Global) -> Result<Program, Fail>
             queries: 1,
         },
         domains: List::of(Vec::new(alloc)),
-        names: List::of(vec![in alloc; gear, heat, alarm]?),
+        names: List::of(names(alloc, &declared)?),
         units: List::of(vec![in alloc; unit(alloc, 0), unit(alloc, 1), unit(alloc, 2)]?),
         layers: List::of(Vec::new(alloc)),
         events: 0,
-    })
+    };
+    Ok(Cache::new(alloc, &program)?)
 }
 
-// Empty rows for each of them.
-fn empty(alloc: Global) -> Result<Cache, Fail>
-    ensures { IfOk result (λ cache. length cache.rows ≡ 3) }
-{
-    let program = program(alloc)?;
-    let cache = Cache::new(alloc, &program)?;
-    Ok(cache)
+// The rows of a fluent, one span for each of its values.
+fn rows(alloc: Global, spans: &[Span]) -> Result<UnitRows, Fail> {
+    let mut rows = Vec::new(alloc);
+    for span in spans {
+        rows.push(Spans::from_list(alloc, &[*span])?)?;
+    }
+    Ok(UnitRows::Fluent(List::of(rows)))
 }
 
-fn span(after: u64, until: u64) -> Span {
+// The span of these borders.
+fn span(after: Point, until: Point) -> Span {
     Span { after, until }
-}
-
-// The spans of a list that is normal.
-fn made(alloc: Global, list: &[Span]) -> Result<Spans, Fail> {
-    let spans = Spans::from_list(alloc, list)?;
-    Ok(spans)
 }
 
 // Low from 3 to 11, high at 12 and 13, heat at 5 and 6, and an event in place of alarm.
@@ -87,22 +93,59 @@ fn cache(alloc: Global) -> Result<Cache, Fail>
     ensures { IfOk result (λ cache. length cache.rows ≡ 3) }
 {
     let mut cache = empty(alloc)?;
-    let gear = vec![in alloc; made(alloc, &[span(2, 11)])?, made(alloc, &[span(11, 13)])?]?;
-    cache.put_row(0, UnitRows::Fluent(List::of(gear)));
-    let heat = vec![in alloc; made(alloc, &[span(4, 6)])?]?;
-    cache.put_row(1, UnitRows::Fluent(List::of(heat)));
+    cache.put_row(0, rows(alloc, &[span(2, 11), span(11, 13)])?);
+    cache.put_row(1, rows(alloc, &[span(4, 6)])?);
     cache.put_row(2, UnitRows::Event(Points::from_list(alloc, &[5])?));
     Ok(cache)
 }
 
-fn row(unit: UnitId, value: Value) -> Expr
-    requires { unit < 3 }
+// A fluent-value.
+#[derive(Clone, Copy)]
+enum Leaf {
+    Low,
+    High,
+    // A value that the gear does not have.
+    Reverse,
+    Heat,
+    Alarm,
+}
+
+// An expression, as a test writes it.
+#[derive(Clone, Copy)]
+enum Form<'a> {
+    Row(Leaf),
+    Union(&'a [Leaf]),
+    Both(Leaf, Leaf),
+    Without(Leaf, &'a [Leaf]),
+}
+
+// The row of a fluent-value.
+fn row(leaf: Leaf) -> Expr
     ensures rows { has_rows 3 result ≡ true }
     ensures members { has_members result ≡ true }
 {
-    Expr::Row(unit, value)
+    match leaf {
+        Leaf::Low => Expr::Row(0, 0),
+        Leaf::High => Expr::Row(0, 1),
+        Leaf::Reverse => Expr::Row(0, 2),
+        Leaf::Heat => Expr::Row(1, 0),
+        Leaf::Alarm => Expr::Row(2, 0),
+    }
 }
 
+// The rows of some fluent-values.
+fn leaves(alloc: Global, list: &[Leaf]) -> Result<Vec<Expr>, Fail>
+    ensures rows { IfOk result (λ exprs. list_all (has_rows 3) exprs.items ≡ true) }
+    ensures members { IfOk result (λ exprs. list_all has_members exprs.items ≡ true) }
+{
+    let mut exprs = Vec::new(alloc);
+    for leaf in list {
+        exprs.push(row(*leaf))?;
+    }
+    Ok(exprs)
+}
+
+// An expression that is a union.
 fn union(members: Vec<Expr>) -> Expr
     requires rows { list_all (has_rows 3) members.items ≡ true }
     requires members { list_all has_members members.items ≡ true }
@@ -112,6 +155,7 @@ fn union(members: Vec<Expr>) -> Expr
     Expr::Union(members)
 }
 
+// An expression that is an intersection.
 fn shared(members: Vec<Expr>) -> Expr
     requires some { 0 < length members.items }
     requires rows { list_all (has_rows 3) members.items ≡ true }
@@ -122,6 +166,7 @@ fn shared(members: Vec<Expr>) -> Expr
     Expr::Intersect(members)
 }
 
+// An expression that is a complement.
 fn left_over(alloc: Global, first: Expr, others: Vec<Expr>) -> Result<Expr, Fail>
     requires first_rows { has_rows 3 first ≡ true }
     requires first_members { has_members first ≡ true }
@@ -133,80 +178,90 @@ fn left_over(alloc: Global, first: Expr, others: Vec<Expr>) -> Result<Expr, Fail
     Ok(Expr::Complement(Box::new(alloc, first)?, others))
 }
 
-// The spans of an expression over three rows.
-fn found(alloc: Global, expr: &Expr, cache: &Cache) -> Result<Spans, Fail>
+// The expression that a test writes.
+fn written(alloc: Global, form: Form<'_>) -> Result<Expr, Fail>
+    ensures rows { IfOk result (λ expr. has_rows 3 expr ≡ true) }
+    ensures members { IfOk result (λ expr. has_members expr ≡ true) }
+{
+    match form {
+        Form::Row(leaf) => Ok(row(leaf)),
+        Form::Union(list) => Ok(union(leaves(alloc, list)?)),
+        Form::Both(one, other) => Ok(shared(vec![in alloc; row(one), row(other)]?)),
+        Form::Without(first, others) => left_over(alloc, row(first), leaves(alloc, others)?),
+    }
+}
+
+// High, or low without heat; and that without low while there is heat, and without alarm.
+fn nested(alloc: Global) -> Result<Expr, Fail>
+    ensures rows { IfOk result (λ expr. has_rows 3 expr ≡ true) }
+    ensures members { IfOk result (λ expr. has_members expr ≡ true) }
+{
+    let cold = written(alloc, Form::Without(Leaf::Low, &[Leaf::Heat]))?;
+    let warm = written(alloc, Form::Both(Leaf::Low, Leaf::Heat))?;
+    let first = union(vec![in alloc; row(Leaf::High), cold]?);
+    left_over(alloc, first, vec![in alloc; warm, row(Leaf::Alarm)]?)
+}
+
+// The borders of the spans of an expression over three rows.
+fn found(alloc: Global, expr: &Expr, cache: &Cache) -> Result<Vec<(Point, Point)>, Fail>
     requires rows { has_rows 3 expr.now ≡ true }
     requires members { has_members expr.now ≡ true }
     requires count { length cache.now.rows ≡ 3 }
 {
     let spans = spans_of_expr(alloc, expr, cache)?;
-    Ok(spans)
+    let mut borders = Vec::new(alloc);
+    for span in spans.as_slice() {
+        borders.push((span.after, span.until))?;
+    }
+    Ok(borders)
 }
 
 #[test]
-fn what_others_have_is_left_out(rt: HostRuntime) -> Result<(), Fail> {
-    let alloc = rt.alloc();
-    let cache = cache(alloc)?;
-    let idle = left_over(alloc, row(0, 0), vec![in alloc; row(1, 0)]?)?;
-    let spans = found(alloc, &idle, &cache)?;
-    assert_eq!(rt; spans.as_slice(), [span(2, 4), span(6, 11)].as_slice());
-    let itself = left_over(alloc, row(0, 0), vec![in alloc; row(0, 0)]?)?;
-    assert!(rt; found(alloc, &itself, &cache)?.as_slice().is_empty());
-    let two = left_over(alloc, row(0, 0), vec![in alloc; row(1, 0), row(0, 0)]?)?;
-    assert!(rt; found(alloc, &two, &cache)?.as_slice().is_empty());
-    Ok(())
-}
-
-#[test]
-fn rows_are_lent_where_there_are_some(rt: HostRuntime) -> Result<(), Fail> {
-    let alloc = rt.alloc();
-    let cache = cache(alloc)?;
-    let low = found(alloc, &row(0, 0), &cache)?;
-    assert_eq!(rt; low.as_slice(), [span(2, 11)].as_slice());
-    let high = found(alloc, &row(0, 1), &cache)?;
-    assert_eq!(rt; high.as_slice(), [span(11, 13)].as_slice());
-    let only = found(alloc, &union(vec![in alloc; row(0, 1)]?), &cache)?;
-    assert_eq!(rt; only.as_slice(), [span(11, 13)].as_slice());
-    let no_value = union(vec![in alloc; row(0, 2), row(2, 0)]?);
-    assert!(rt; found(alloc, &no_value, &cache)?.as_slice().is_empty());
-    Ok(())
-}
-
-#[test]
-fn values_of_one_fluent_are_told_apart(rt: HostRuntime) -> Result<(), Fail> {
-    let alloc = rt.alloc();
-    let cache = cache(alloc)?;
-    let some = found(alloc, &union(vec![in alloc; row(0, 0), row(0, 1)]?), &cache)?;
-    assert_eq!(rt; some.as_slice(), [span(2, 13)].as_slice());
-    let both = shared(vec![in alloc; row(0, 0), row(0, 1)]?);
-    assert!(rt; found(alloc, &both, &cache)?.as_slice().is_empty());
+fn constructs_have_the_points_of_their_members(rt: HostRuntime) -> Result<(), Fail> {
+    use Form::{Both, Row, Union, Without};
+    use Leaf::{Alarm, Heat, High, Low, Reverse};
+    let cache = cache(rt.alloc())?;
+    let table: [(Form<'_>, &[(u64, u64)]); 9] = [
+        (Without(Low, &[Heat]), &[(2, 4), (6, 11)]),
+        (Without(Low, &[Low]), &[]),
+        (Without(Low, &[Heat, Low]), &[]),
+        // Rows are lent where there are some.
+        (Row(Low), &[(2, 11)]),
+        (Row(High), &[(11, 13)]),
+        (Union(&[High]), &[(11, 13)]),
+        (Union(&[Reverse, Alarm]), &[]),
+        // Values of one fluent are told apart.
+        (Union(&[Low, High]), &[(2, 13)]),
+        (Both(Low, High), &[]),
+    ];
+    for (form, wanted) in table {
+        let spans = found(rt.alloc(), &written(rt.alloc(), form)?, &cache)?;
+        assert_eq!(rt; spans.as_slice(), wanted);
+    }
     Ok(())
 }
 
 #[test]
 fn constructs_stand_in_constructs(rt: HostRuntime) -> Result<(), Fail> {
-    let alloc = rt.alloc();
-    let cache = cache(alloc)?;
-    let cold = left_over(alloc, row(0, 0), vec![in alloc; row(1, 0)]?)?;
-    let warm = shared(vec![in alloc; row(0, 0), row(1, 0)]?);
-    let inner = union(vec![in alloc; row(0, 1), cold]?);
-    let outer = left_over(alloc, inner, vec![in alloc; warm, row(2, 0)]?)?;
-    let spans = found(alloc, &outer, &cache)?;
-    assert_eq!(rt; spans.as_slice(), [span(2, 4), span(6, 13)].as_slice());
+    let cache = cache(rt.alloc())?;
+    let spans = found(rt.alloc(), &nested(rt.alloc())?, &cache)?;
+    assert_eq!(rt; spans.as_slice(), [(2, 4), (6, 13)].as_slice());
     Ok(())
 }
 
 #[test]
 fn empty_rows_give_empty_rows(rt: HostRuntime) -> Result<(), Fail> {
-    let alloc = rt.alloc();
-    let cache = empty(alloc)?;
-    let some = union(vec![in alloc; row(0, 0), row(1, 0)]?);
-    assert!(rt; found(alloc, &some, &cache)?.as_slice().is_empty());
-    let both = shared(vec![in alloc; row(0, 0), row(1, 0)]?);
-    assert!(rt; found(alloc, &both, &cache)?.as_slice().is_empty());
-    let rest = left_over(alloc, row(0, 0), vec![in alloc; row(1, 0)]?)?;
-    assert!(rt; found(alloc, &rest, &cache)?.as_slice().is_empty());
-    let none = union(Vec::new(alloc));
-    assert!(rt; found(alloc, &none, &cache)?.as_slice().is_empty());
+    use Form::{Both, Union, Without};
+    use Leaf::{Heat, Low};
+    let cache = empty(rt.alloc())?;
+    for form in [
+        Union(&[Low, Heat]),
+        Both(Low, Heat),
+        Without(Low, &[Heat]),
+        Union(&[]),
+    ] {
+        let spans = found(rt.alloc(), &written(rt.alloc(), form)?, &cache)?;
+        assert!(rt; spans.is_empty());
+    }
     Ok(())
 }

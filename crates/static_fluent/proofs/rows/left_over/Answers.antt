@@ -1,6 +1,6 @@
 use Rattle.std.proofs.Common.{◌&&◌, not, map, ap, ap₂, ◌∙◌}
 use Rattle.span_algebra.specs.Normal.{covers}
-use Rattle.static_fluent.specs.Constructs.{spans_in}
+use Rattle.static_fluent.specs.Evaluated.{spans_in}
 use Rattle.static_fluent.proofs.Members.{same_any}
 use Rattle.static_fluent.proofs.rows.left_over.Goals as goal
 

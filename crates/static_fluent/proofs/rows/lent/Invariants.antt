@@ -1,5 +1,5 @@
 use Rattle.std.proofs.Common.{◌≡◌, map, take}
-use Rattle.static_fluent.specs.Constructs.{spans_in}
+use Rattle.static_fluent.specs.Evaluated.{spans_in}
 use Rattle.static_fluent.proofs.rows.lent.Given as goal
 
 abbrev pub invariant-loop-member : goal.invariant-loop-member
