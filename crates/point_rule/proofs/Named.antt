@@ -1,7 +1,8 @@
 -- A test that all units pass that a rule names is passed by those of each of its conditions.
-use Rattle.std.proofs.Common.{◌≡◌, ℕ, Bool, true, false, ◌&&◌, List, [], ◌∷◌, flat_map, refl, sym}
+use Rattle.std.proofs.Common.{◌≡◌, ℕ, Bool, true, ◌&&◌, List, [], ◌∷◌, flat_map, refl, sym}
 use Rattle.std.proofs.Common.{◌∙◌, ap₂}
 use Rattle.std.specs.List.{list_all}
+use Rattle.std.proofs.lemmas.Bool.{and_parts}
 use Rattle.std.proofs.lemmas.List.Folds.{list_all-append}
 use Rattle.ground_types.specs.Meaning.{units_of_trigger, units_of_what, units_of_rule}
 use Rattle.ground_types.specs.declared.program.Cond.{Cond}
@@ -15,15 +16,11 @@ all_flat test (c ∷ rest) =
     list_all-append test (units_of_what c.what) (flat_map (λ cond. units_of_what cond.what) rest)
     ∙ ap₂ (λ (a b : Bool). a && b) refl (all_flat test rest)
 
-and_right : (a b : Bool) → (a && b) ≡ true → b ≡ true
-and_right true b is = is
-and_right false b is = cc
-
 pub of_conditions : (test : ℕ → Bool) (rule : Rule) → list_all test (units_of_rule rule) ≡ true →
     list_all (λ cond. list_all test (units_of_what cond.what)) rule.conds ≡ true
 of_conditions test rule all =
     sym (all_flat test rule.conds)
-    ∙ and_right (list_all test (units_of_trigger rule.trigger))
+    ∙ (and_parts (list_all test (units_of_trigger rule.trigger))
     (list_all test (flat_map (λ cond. units_of_what cond.what) rule.conds))
     (sym (list_all-append test (units_of_trigger rule.trigger)
-    (flat_map (λ cond. units_of_what cond.what) rule.conds)) ∙ all)
+    (flat_map (λ cond. units_of_what cond.what) rule.conds)) ∙ all)).1

@@ -1,4 +1,5 @@
--- Evidence that the definitions say what is meant: each equation holds by computation alone.
+-- No contract speaks by this: evidence, by computation alone, that the definitions say what is
+-- meant.
 use Rattle.std.specs.Prelude.{ℕ, ◌&&◌, Some, ◌≡◌, true, false, List, [], ◌∷◌, refl}
 use Rattle.ground_types.specs.Rows.{points}
 use Rattle.ground_types.specs.Truth.{happens, body_holds}

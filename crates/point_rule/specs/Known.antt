@@ -1,4 +1,5 @@
--- What is known of a window while it is computed: the rows of units and the events that stand.
+-- Public contracts speak by this: what is known of a window while it is computed, the rows of units
+-- and the events that stand.
 use Rattle.std.specs.Prelude.{◌≡◌, ℕ, nat_lt, Bool, true, ◌||◌, List, length, Option, None, Some}
 use Rattle.std.specs.List.{list_all}
 use Rattle.ground_types.specs.Truth.{Table}

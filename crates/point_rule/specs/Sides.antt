@@ -1,5 +1,5 @@
--- The two queries of which a rule's conditions are read: the one that is computed, and the one
--- before.
+-- For private functions alone: the two queries of which a rule's conditions are read, the one that
+-- is computed and the one before.
 use Rattle.std.specs.Prelude.{ℕ, Bool, List}
 use Rattle.ground_types.specs.Truth.{Table}
 use Rattle.span_algebra.specs.Normal.{has}

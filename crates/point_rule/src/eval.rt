@@ -50,6 +50,7 @@ fn holds(side: Side, cache: &Cache, unit: UnitId, value: Value, at: Point) -> bo
     }
 }
 
+// Whether a trigger occurs at a point.
 pub(crate) fn happens(
     side: Side,
     cache: &Cache,
@@ -74,6 +75,7 @@ pub(crate) fn happens(
     }
 }
 
+// Whether a condition is true at a point.
 pub(crate) fn condition_holds(
     side: Side,
     cache: &Cache,
@@ -93,6 +95,7 @@ pub(crate) fn condition_holds(
     is_so == cond.positive
 }
 
+// Whether all of some conditions are true at a point.
 fn conditions_hold(cache: &Cache, store: &EventStore, conds: &[Cond], at: Point) -> bool
     requires units { list_all (λ cond. list_all (λ unit. nat_lt unit (length cache.now.rows))
         (units_of_what cond.what)) conds.now ≡ true }

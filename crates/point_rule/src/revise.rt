@@ -46,10 +46,10 @@ fn true_among<L: Ledger>(
     Ok(Points::of(alloc, found))
 }
 
-/// The points of the window `(w, q]` at which a rule's body is true, in order. It looks at the body
-/// at each touched point, and at no other; so far there is no query before (`before` is None, `old`
-/// is empty). The units that the rule names have to have rows in the cache, and `q` is below the
-/// greatest number. Ok adds a step for each touched point, a refusal at most as many.
+/// The points of the window `(w, q]` at which a rule's body is true, in order. So far `before` has
+/// to be None and `old` empty. The units that the rule names have to have rows in the cache, and
+/// `q` is below the greatest number. Ok adds a step for each point of the window at which the
+/// rule's trigger occurs, a refusal at most as many.
 pub fn revise_rule<L: Ledger>(
     alloc: Global,
     rule: &Rule,

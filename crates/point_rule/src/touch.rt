@@ -117,14 +117,14 @@ fn open_among(
     Ok(Points::of(alloc, found))
 }
 
-/// The points of the window `(w, q]` at which a rule's body has to be looked at, in order: its
-/// trigger occurs there, and the query before does not settle the body, since there is none, or the
-/// point is past its right border (`before`), or the trigger or a condition had another truth
-/// there. The units that the rule names have to have rows in the cache, old ones too, and `q` is
-/// below the greatest number. Two searches by halves and a copy, or one pass over a fluent's spans,
-/// and for each point up to `before` some searches by halves for each condition. The one error is
-/// want of memory. After the Run-Time Event Calculus, which looks at rules where something
-/// happened; the touched points are our own.
+/// The points of the window `(w, q]` at which a rule's trigger occurs, and which are open, in
+/// order: `before` is None, or the point is past it, or the trigger or a condition has another
+/// truth over the old rows of the cache and the events that stood when the store was settled last.
+/// The units that the rule names have to have rows in the cache, old ones too, and `q` is below the
+/// greatest number. Two searches by halves and a copy, or one pass over a fluent's spans, and for
+/// each point up to `before` some searches by halves for each condition. The one error is want of
+/// memory. After the Run-Time Event Calculus, which looks at rules where something happened; the
+/// touched points are our own.
 pub fn touched(
     alloc: Global,
     rule: &Rule,

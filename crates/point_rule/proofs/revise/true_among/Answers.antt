@@ -1,6 +1,6 @@
 use Rattle.std.proofs.Common.{◌≡◌, take, take_all, arith}
 use Rattle.ground_types.specs.Truth.{body_holds}
-use Rattle.derived_event.proofs.Rising.{rising_filter}
+use Rattle.span_algebra.proofs.Parts.{rising_filter}
 use Rattle.point_rule.specs.Known.{known}
 use Rattle.point_rule.proofs.revise.true_among.Goals as goal
 

@@ -1,5 +1,5 @@
 use Rattle.std.proofs.Common.{◌≡◌, take, take_all, arith, Some}
-use Rattle.derived_event.proofs.Rising.{rising_filter}
+use Rattle.span_algebra.proofs.Parts.{rising_filter}
 use Rattle.point_rule.specs.Known.{is_open}
 use Rattle.point_rule.proofs.touch.open_among.Goals as goal
 
