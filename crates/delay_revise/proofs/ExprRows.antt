@@ -12,7 +12,7 @@ use Rattle.ground_types.specs.Recognition.{static_of_unit, option_holds}
 use Rattle.ground_types.specs.Rows.{row, covers, IsRisingFrom, IsRowByPoints}
 use Rattle.ground_types.specs.Sound.{member_count, expr_fits, members_fit, is_union, kind_fits}
 use Rattle.ground_types.specs.Truth.{expr_holds}
-use Rattle.ground_types.proofs.Members.{and_left, and_right}
+use Rattle.std.proofs.lemmas.Bool.{and_parts, eqb-true}
 use Rattle.ground_types.proofs.Rows.{covers_hit, row_from_points}
 use Rattle.ground_types.specs.declared.program.Expr.{Expr, Row, Union', Intersect', Complement'}
 use Rattle.ground_types.specs.declared.program.Expr.{Row_of-Expr, end_of-Expr, more_of-Expr}
@@ -42,22 +42,23 @@ module _ (program : Program) where
     expr_members (Row unit v) fits = refl
     expr_members (Union' shape members) fits = all_members members fits
     expr_members (Intersect' shape members) fits =
-        ap₂ (λ (a b : Bool). a && b) (and_left (not (member_count members == 0))
-        (members_fit program members) fits)
-        (all_members members (and_right (not (member_count members == 0))
-        (members_fit program members) fits))
+        ap₂ (λ (a b : Bool). a && b) (and_parts (not (member_count members == 0))
+        (members_fit program members) fits).0
+        (all_members members (and_parts (not (member_count members == 0))
+        (members_fit program members) fits).1)
     expr_members (Complement' p first shape others) fits =
-        ap₂ (λ (a b : Bool). a && b) (expr_members first (and_left (expr_fits program first)
-        (members_fit program others) fits))
-        (all_members others (and_right (expr_fits program first) (members_fit program others) fits))
+        ap₂ (λ (a b : Bool). a && b) (expr_members first (and_parts (expr_fits program first)
+        (members_fit program others) fits).0)
+        (all_members others (and_parts (expr_fits program first) (members_fit program others)
+        fits).1)
 
     all_members : {m : _} (members : Row_of-Expr m) → members_fit program members ≡ true
         → all_have_members members ≡ true
     all_members end_of-Expr fits = refl
     all_members (more_of-Expr member rest) fits =
-        ap₂ (λ (a b : Bool). a && b) (expr_members member (and_left (expr_fits program member)
-        (members_fit program rest) fits))
-        (all_members rest (and_right (expr_fits program member) (members_fit program rest) fits))
+        ap₂ (λ (a b : Bool). a && b) (expr_members member (and_parts (expr_fits program member)
+        (members_fit program rest) fits).0)
+        (all_members rest (and_parts (expr_fits program member) (members_fit program rest) fits).1)
 
   mutual
     expr_named : (expr : Expr) → expr_fits program expr ≡ true → has_rows (length program.units)
@@ -66,15 +67,15 @@ module _ (program : Program) where
         (slice_get program.units unit) refl fits)
     expr_named (Union' shape members) fits = members_named members fits
     expr_named (Intersect' shape members) fits =
-        members_named members (and_right (not (member_count members == 0))
-        (members_fit program members) fits)
+        members_named members (and_parts (not (member_count members == 0))
+        (members_fit program members) fits).1
     expr_named (Complement' p first shape others) fits =
         list_all-append (λ unit. nat_lt unit (length program.units)) (units_of_expr first)
         (units_of_members others)
-        ∙ ap₂ (λ (a b : Bool). a && b) (expr_named first (and_left (expr_fits program first)
-        (members_fit program others) fits))
-        (members_named others (and_right (expr_fits program first) (members_fit program others)
-        fits))
+        ∙ ap₂ (λ (a b : Bool). a && b) (expr_named first (and_parts (expr_fits program first)
+        (members_fit program others) fits).0)
+        (members_named others (and_parts (expr_fits program first) (members_fit program others)
+        fits).1)
 
     members_named : {m : _} (members : Row_of-Expr m) → members_fit program members ≡ true →
         list_all (λ unit. nat_lt unit (length program.units)) (units_of_members members) ≡ true
@@ -82,26 +83,24 @@ module _ (program : Program) where
     members_named (more_of-Expr member rest) fits =
         list_all-append (λ unit. nat_lt unit (length program.units)) (units_of_expr member)
         (units_of_members rest)
-        ∙ ap₂ (λ (a b : Bool). a && b) (expr_named member (and_left (expr_fits program member)
-        (members_fit program rest) fits))
-        (members_named rest (and_right (expr_fits program member) (members_fit program rest) fits))
+        ∙ ap₂ (λ (a b : Bool). a && b) (expr_named member (and_parts (expr_fits program member)
+        (members_fit program rest) fits).0)
+        (members_named rest (and_parts (expr_fits program member) (members_fit program rest)
+        fits).1)
 
 all_more : (one two : Expr → Bool) (exprs : List Expr) → ((expr : Expr) → one expr ≡ true
     → two expr ≡ true) → list_all one exprs ≡ true →
     list_all two exprs ≡ true
 all_more one two [] more all = refl
 all_more one two (expr ∷ rest) more all =
-    ap₂ (λ (a b : Bool). a && b) (more expr (and_left (one expr) (list_all one rest) all))
-    (all_more one two rest more (and_right (one expr) (list_all one rest) all))
+    ap₂ (λ (a b : Bool). a && b) (more expr (and_parts (one expr) (list_all one rest) all).0)
+    (all_more one two rest more (and_parts (one expr) (list_all one rest) all).1)
 
 -- what is known of a statically determined fluent whose expressions fit
 pub record IsStatic (count values : ℕ) (exprs : List Expr) : Type 0 where
   pub many : length exprs ≡ values
   pub rows : list_all (has_rows count) exprs ≡ true
   pub members : list_all has_members exprs ≡ true
-
-many_by : (m n : ℕ) → (m == n) ≡ true → m ≡ n
-many_by m n is = grind (arith, nat_tests)
 
 pub static_of : (program : Program) (rows : List UnitRows) (values : ℕ) (kind : UnitKind)
     (exprs : List Expr) → kind_fits program values kind ≡ true →
@@ -111,13 +110,12 @@ static_of program rows values kind exprs fits size is =
     exprs) ≡ true =
     ap (kind_fits program values) (sym is) ∙ fits in
     let each : list_all (expr_fits program) exprs ≡ true =
-    and_right ((length exprs == values) && list_all is_union exprs) (list_all (expr_fits program)
-    exprs) fit in
+    (and_parts ((length exprs == values) && list_all is_union exprs) (list_all (expr_fits program)
+    exprs) fit).1 in
     record {
-      many = many_by (length exprs) values (and_left (length exprs == values)
-          (list_all is_union exprs)
-          (and_left ((length exprs == values) && list_all is_union exprs)
-          (list_all (expr_fits program) exprs) fit));
+      many = eqb-true (length exprs) values (and_parts (length exprs == values)
+          (list_all is_union exprs) (and_parts ((length exprs == values) && list_all is_union exprs)
+          (list_all (expr_fits program) exprs) fit).0).0;
       rows = ap (λ (n : ℕ). list_all (has_rows n) exprs) size ∙ all_more (expr_fits program)
           (has_rows (length program.units)) exprs (expr_named program) each;
       members = all_more (expr_fits program) has_members exprs (expr_members program) each;

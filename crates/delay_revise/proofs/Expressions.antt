@@ -11,7 +11,7 @@ use Rattle.ground_types.specs.Recognition.{option_holds}
 use Rattle.ground_types.specs.Sound.{IsSound, member_count, expr_fits, members_fit}
 use Rattle.ground_types.specs.Truth.{expr_holds, some_holds, each_holds}
 use Rattle.ground_types.specs.Windows.{left, right}
-use Rattle.ground_types.proofs.Members.{and_left, and_right}
+use Rattle.std.proofs.lemmas.Bool.{and_parts}
 use Rattle.ground_types.specs.declared.entries.Entry.{Entry}
 use Rattle.ground_types.specs.declared.program.Expr.{Expr, Row, Union', Intersect', Complement'}
 use Rattle.ground_types.specs.declared.program.Expr.{Row_of-Expr, end_of-Expr, more_of-Expr}
@@ -50,13 +50,13 @@ module _ (rows : List UnitRows) (store : Events) (t : ℕ) where
 -- what passes for two lists together passes for each
 both_left : (test : ℕ → Bool) (xs ys : List ℕ) → list_all test (xs ++ ys) ≡ true → list_all test xs
     ≡ true
-both_left test xs ys all = and_left (list_all test xs) (list_all test ys)
-    (sym (list_all-append test xs ys) ∙ all)
+both_left test xs ys all = (and_parts (list_all test xs) (list_all test ys)
+    (sym (list_all-append test xs ys) ∙ all)).0
 
 both_right : (test : ℕ → Bool) (xs ys : List ℕ) → list_all test (xs ++ ys) ≡ true
     → list_all test ys ≡ true
-both_right test xs ys all = and_right (list_all test xs) (list_all test ys)
-    (sym (list_all-append test xs ys) ∙ all)
+both_right test xs ys all = (and_parts (list_all test xs) (list_all test ys)
+    (sym (list_all-append test xs ys) ∙ all)).1
 
 module _ (program : Program) (history : List Entry) (store : Events) (below : List ℕ)
     (rows : List UnitRows)
@@ -69,16 +69,16 @@ module _ (program : Program) (history : List Entry) (store : Events) (below : Li
         expr_holds (known rows store) expr t ≡ expr_holds (query_table program history 0) expr t
     expr_found (Row unit v) fits done =
         value_found program history store below rows sound stand worked unit v t fits
-        (and_left (contains below unit) true done) above within
+        (and_parts (contains below unit) true done).0 above within
     expr_found (Union' shape members) fits done = some_found members fits done
     expr_found (Intersect' shape members) fits done =
-        each_found members (and_right (not (member_count members == 0))
-        (members_fit program members) fits) done
+        each_found members (and_parts (not (member_count members == 0))
+        (members_fit program members) fits).1 done
     expr_found (Complement' p first shape others) fits done =
         ap₂ (λ (a b : Bool). a && not b)
-        (expr_found first (and_left (expr_fits program first) (members_fit program others) fits)
+        (expr_found first (and_parts (expr_fits program first) (members_fit program others) fits).0
         (both_left (contains below) (units_of_expr first) (units_of_members others) done))
-        (some_found others (and_right (expr_fits program first) (members_fit program others) fits)
+        (some_found others (and_parts (expr_fits program first) (members_fit program others) fits).1
         (both_right (contains below) (units_of_expr first) (units_of_members others) done))
 
     some_found : {m : _} (members : Row_of-Expr m) → members_fit program members ≡ true
@@ -88,9 +88,9 @@ module _ (program : Program) (history : List Entry) (store : Events) (below : Li
     some_found end_of-Expr fits done = refl
     some_found (more_of-Expr member rest) fits done =
         ap₂ (λ (a b : Bool). a || b)
-        (expr_found member (and_left (expr_fits program member) (members_fit program rest) fits)
+        (expr_found member (and_parts (expr_fits program member) (members_fit program rest) fits).0
         (both_left (contains below) (units_of_expr member) (units_of_members rest) done))
-        (some_found rest (and_right (expr_fits program member) (members_fit program rest) fits)
+        (some_found rest (and_parts (expr_fits program member) (members_fit program rest) fits).1
         (both_right (contains below) (units_of_expr member) (units_of_members rest) done))
 
     each_found : {m : _} (members : Row_of-Expr m) → members_fit program members ≡ true
@@ -100,9 +100,9 @@ module _ (program : Program) (history : List Entry) (store : Events) (below : Li
     each_found end_of-Expr fits done = refl
     each_found (more_of-Expr member rest) fits done =
         ap₂ (λ (a b : Bool). a && b)
-        (expr_found member (and_left (expr_fits program member) (members_fit program rest) fits)
+        (expr_found member (and_parts (expr_fits program member) (members_fit program rest) fits).0
         (both_left (contains below) (units_of_expr member) (units_of_members rest) done))
-        (each_found rest (and_right (expr_fits program member) (members_fit program rest) fits)
+        (each_found rest (and_parts (expr_fits program member) (members_fit program rest) fits).1
         (both_right (contains below) (units_of_expr member) (units_of_members rest) done))
 
   -- the expression of a value, if there is one, is true at a value point where it is so over the
@@ -113,9 +113,9 @@ module _ (program : Program) (history : List Entry) (store : Events) (below : Li
       ≡ option_holds (query_table program history 0) (slice_get exprs v) t
   option_found [] v fit done = refl
   option_found (expr ∷ rest) zero fit done =
-      expr_found expr (and_left (expr_fits program expr) (list_all (expr_fits program) rest) fit)
+      expr_found expr (and_parts (expr_fits program expr) (list_all (expr_fits program) rest) fit).0
       (both_left (contains below) (units_of_expr expr) (flat_map units_of_expr rest) done)
   option_found (expr ∷ rest) (suc v) fit done =
-      option_found rest v (and_right (expr_fits program expr) (list_all (expr_fits program) rest)
-      fit)
+      option_found rest v (and_parts (expr_fits program expr) (list_all (expr_fits program) rest)
+      fit).1
       (both_right (contains below) (units_of_expr expr) (flat_map units_of_expr rest) done)

@@ -49,16 +49,6 @@ steps_within f rules i rule start before after within is old new =
     (subst (λ (r : Rule). sum_by f (take i rules) + f r ≤ sum_by f rules) (sym is)
     (sum_by_more_le f rules i rule within))
 
--- a rule that was done is one in the midst
-pub steps_done : (f : Rule → ℕ) (rules : List Rule) (i : ℕ) (rule : Rule)
-    (start before after : Counted) → i < length rules → rule ≡ get_or rules i rule →
-    before ≡ record { count = start.count + sum_by f (take i rules); out = start.out } →
-    after ≡ record { count = before.count + f rule; out = before.out }
-    → after.count ≤ start.count + sum_by f rules
-steps_done f rules i rule start before after within is old new =
-    let done : after.count ≡ before.count + f rule = ap (λ (c : Counted). c.count) new in
-    steps_within f rules i rule start before after.count within is old (omega arith)
-
 -- where there is no query before, the touched points are all those of the trigger
 pub all_open : (table : Table) (rule : Rule) (w q : ℕ) →
     points (λ t. happens table rule.trigger t && true) w q ≡ points (happens table rule.trigger) w q

@@ -20,6 +20,7 @@ use Rattle.ground_types.proofs.Points.{points_are}
 use Rattle.ground_types.proofs.Rows.{le_or_above}
 use Rattle.ground_types.specs.declared.program.Rule.{Rule}
 use Rattle.simple_fluent.specs.Rows.{IsInside}
+use Rattle.delay_revise.proofs.Occurs.{inside_is}
 
 -- some list has the point
 abbrev pub some_has : List (List ℕ) → ℕ → Bool
@@ -131,17 +132,17 @@ any_more test rules i rule within is =
 
 -- one more rule, of one value
 pub grown_more : (found : Rule → List ℕ) (rules : List Rule) (i : ℕ) (rule : Rule)
-    (before after : List (List (List ℕ))) (was more : List (List ℕ)) (made : List ℕ)
-    (v t : ℕ) → i < length rules → rule ≡ get_or rules i rule → rule.value < length before
-    → was ≡ get_or before rule.value [] → made ≡ found rule →
-    some_has more t ≡ (some_has was t || contains made t) → after ≡ set before rule.value more →
+    (before after : List (List (List ℕ))) (was more : List (List ℕ)) (v t : ℕ) →
+    i < length rules → rule ≡ get_or rules i rule → rule.value < length before
+    → was ≡ get_or before rule.value [] →
+    some_has more t ≡ (some_has was t || contains (found rule) t)
+    → after ≡ set before rule.value more →
     some_has (get_or before v []) t ≡ list_any (rule_has found v t) (take i rules) →
     some_has (get_or after v []) t ≡ list_any (rule_has found v t) (take (i + 1) rules)
-grown_more found rules i rule before after was more made v t within is below here this grows new
-    old =
+grown_more found rules i rule before after was more v t within is below here grows new old =
     let step : some_has more t ≡ (some_has (get_or before rule.value []) t || contains (found rule)
     t) =
-    grows ∙ ap₂ (λ (l : List (List ℕ)) (p : List ℕ). some_has l t || contains p t) here this in
+    grows ∙ ap (λ (l : List (List ℕ)). some_has l t || contains (found rule) t) here in
     ap (λ (lists : List (List (List ℕ))). some_has (get_or lists v []) t) new
     ∙ grown before rule.value more (found rule) v t below step
     ∙ ap (λ (b : Bool). b || rule_has found v t rule) old
@@ -149,13 +150,13 @@ grown_more found rules i rule before after was more made v t within is below her
 
 -- one more rule, of all
 pub gathered_more : (found : Rule → List ℕ) (rules : List Rule) (i : ℕ) (rule : Rule)
-    (before after : List (List ℕ)) (made : List ℕ) (t : ℕ) →
-    i < length rules → rule ≡ get_or rules i rule → made ≡ found rule → some_has after t
-    ≡ (some_has before t || contains made t) →
+    (before after : List (List ℕ)) (t : ℕ) →
+    i < length rules → rule ≡ get_or rules i rule → some_has after t
+    ≡ (some_has before t || contains (found rule) t) →
     some_has before t ≡ list_any (λ rule. contains (found rule) t) (take i rules) →
     some_has after t ≡ list_any (λ rule. contains (found rule) t) (take (i + 1) rules)
-gathered_more found rules i rule before after made t within is this grows old =
-    grows ∙ ap₂ (λ (a b : Bool). a || b) old (ap (λ (p : List ℕ). contains p t) this)
+gathered_more found rules i rule before after t within is grows old =
+    grows ∙ ap (λ (b : Bool). b || contains (found rule) t) old
     ∙ sym (any_more (λ rule. contains (found rule) t) rules i rule within is)
 
 -- ---- what the lists come to
@@ -195,9 +196,6 @@ values_at a (points ∷ rest) t (suc v) n is =
     later_number a n rest t (contains points t) (omega (arith, is)) ∙ values_at (a + 1) rest t v n
     (omega (arith, is))
 
-inside_by : (w q t : ℕ) (b : Bool) → w < t → t ≤ q → (ltb w t && leb t q && b) ≡ b
-inside_by w q t b low high = grind (arith, nat_tests)
-
 more_values : (value v : ℕ) (b : Bool) (xs ys : List Rule) (rule : Rule) (c : Bool)
     → rule.value ≡ value → contains (map (λ rule. rule.value) xs) v ≡ c →
     contains (map (λ rule. rule.value) (cond b (rule ∷ xs) xs)) v ≡ ((eqb value v && b) || c)
@@ -214,7 +212,7 @@ values_are table [] w q t v low high = refl
 values_are table (rule ∷ rest) w q t v low high =
     let here : contains (points (body_holds table rule) w q) t ≡ body_holds table rule t =
     (points_are (body_holds table rule) w q (omega arith)).each t
-    ∙ inside_by w q t (body_holds table rule t) low high in
+    ∙ inside_is w q t (body_holds table rule t) low high in
     ap (λ (b : Bool). (eqb rule.value v && b)
     || list_any (rule_has (λ rule. points (body_holds table rule) w q) v t) rest) here
     ∙ sym (more_values rule.value v (body_holds table rule t)

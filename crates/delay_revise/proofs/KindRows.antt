@@ -19,7 +19,7 @@ use Rattle.ground_types.specs.Sound.{IsSound, unit_values, initial_fits, rule_fi
 use Rattle.ground_types.specs.Sound.{is_union, kind_fits}
 use Rattle.ground_types.specs.Truth.{Table, is_value, holds, body_holds}
 use Rattle.ground_types.specs.Windows.{left, right}
-use Rattle.ground_types.proofs.Members.{and_left, and_right}
+use Rattle.std.proofs.lemmas.Bool.{and_parts}
 use Rattle.ground_types.specs.declared.entries.Entry.{Entry}
 use Rattle.ground_types.specs.declared.program.Expr.{Expr}
 use Rattle.ground_types.specs.declared.program.Rule.{Rule}
@@ -40,13 +40,13 @@ use Rattle.delay_revise.proofs.LookUp.{table_means, body_found}
 -- what passes for two lists together passes for each
 pub all_left : {X : Type 0} (test : X → Bool) (xs ys : List X) → list_all test (xs ++ ys) ≡ true
     → list_all test xs ≡ true
-all_left test xs ys all = and_left (list_all test xs) (list_all test ys)
-    (sym (list_all-append test xs ys) ∙ all)
+all_left test xs ys all = (and_parts (list_all test xs) (list_all test ys)
+    (sym (list_all-append test xs ys) ∙ all)).0
 
 pub all_right : {X : Type 0} (test : X → Bool) (xs ys : List X) → list_all test (xs ++ ys) ≡ true
     → list_all test ys ≡ true
-all_right test xs ys all = and_right (list_all test xs) (list_all test ys)
-    (sym (list_all-append test xs ys) ∙ all)
+all_right test xs ys all = (and_parts (list_all test xs) (list_all test ys)
+    (sym (list_all-append test xs ys) ∙ all)).1
 
 -- what fits of a simple fluent
 pub record DoesFit (program : Program) (count : ℕ) (initiate terminate : List Rule) : Type 0 where
@@ -62,8 +62,8 @@ fits_simple program count initially initiate terminate fits =
     let inits : Bool = list_all (rule_fits program count) initiate in
     let terms : Bool = list_all (rule_fits program count) terminate in
     record {
-      inits = and_right first inits (and_left (first && inits) terms fits);
-      terms = and_right (first && inits) terms fits;
+      inits = (and_parts first inits (and_parts (first && inits) terms fits).0).1;
+      terms = (and_parts (first && inits) terms fits).1;
     }
 
 opening_there : (program : Program) (history : List Entry) (number : ℕ) (unit : Unit)
@@ -85,7 +85,7 @@ module _ (program : Program) (history : List Entry) (store : Events) (below : Li
       body_holds (known rows store) rule t ≡ body_holds (query_table program history 0) rule t
   first_found count rule rest t fit done above within =
       body_found program history store below rows sound stand worked count rule t
-      (and_left (rule_fits program count rule) (list_all (rule_fits program count) rest) fit)
+      (and_parts (rule_fits program count rule) (list_all (rule_fits program count) rest) fit).0
       (all_left (contains below) (units_of_rule rule) (flat_map units_of_rule rest) done) above
       within
 
@@ -99,8 +99,8 @@ module _ (program : Program) (history : List Entry) (store : Events) (below : Li
   bodies_found count (rule ∷ rest) t fit done above within =
       ap₂ (λ (b : Bool) (l : List Rule). cond b (rule ∷ l) l) (first_found count rule rest t fit
       done above within)
-      (bodies_found count rest t (and_right (rule_fits program count rule)
-      (list_all (rule_fits program count) rest) fit)
+      (bodies_found count rest t (and_parts (rule_fits program count rule)
+      (list_all (rule_fits program count) rest) fit).1
       (all_right (contains below) (units_of_rule rule) (flat_map units_of_rule rest) done) above
       within)
 
@@ -113,8 +113,8 @@ module _ (program : Program) (history : List Entry) (store : Events) (below : Li
   some_found count [] t fit done above within = refl
   some_found count (rule ∷ rest) t fit done above within =
       ap₂ (λ (a b : Bool). a || b) (first_found count rule rest t fit done above within)
-      (some_found count rest t (and_right (rule_fits program count rule)
-      (list_all (rule_fits program count) rest) fit)
+      (some_found count rest t (and_parts (rule_fits program count rule)
+      (list_all (rule_fits program count) rest) fit).1
       (all_right (contains below) (units_of_rule rule) (flat_map units_of_rule rest) done) above
       within)
 
@@ -192,8 +192,8 @@ module _ (program : Program) (history : List Entry) (store : Events) (below : Li
       let at : table.static number v t ≡ option_holds table (slice_get exprs v) t =
       means.static_fluents number v t ∙ ap (λ (k : UnitKind). static_of_unit table k v t) kind in
       option_found program history store below rows sound stand worked t above within exprs v
-      (and_right ((length exprs == count) && list_all is_union exprs) (list_all (expr_fits program)
-      exprs) fits) done
+      (and_parts ((length exprs == count) && list_all is_union exprs) (list_all (expr_fits program)
+      exprs) fits).1 done
       ∙ sym at ∙ ap (λ (o : Option ℕ). is_value o v || table.static number v t) (sym none)
 
   kind_found : (number count : ℕ) (kind : UnitKind) → kind_of program number ≡ kind

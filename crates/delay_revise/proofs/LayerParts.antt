@@ -6,7 +6,8 @@ use Rattle.std.specs.List.{list_all}
 use Rattle.ground_types.specs.Meaning.{units_of_kind, is_layer, are_layers}
 use Rattle.ground_types.specs.Members.{contains}
 use Rattle.ground_types.specs.Recognition.{kind_of}
-use Rattle.ground_types.proofs.Members.{and_left, and_right, contains_hit, contains_left}
+use Rattle.ground_types.proofs.Members.{contains_hit, contains_left}
+use Rattle.std.proofs.lemmas.Bool.{and_parts}
 use Rattle.ground_types.proofs.Members.{contains_either, contains_neither, first_or_rest}
 use Rattle.ground_types.specs.declared.program.Program.{Program}
 
@@ -92,8 +93,8 @@ all_more : (one two : ℕ → Bool) (xs : List ℕ) → ((x : ℕ) → one x ≡
     → list_all one xs ≡ true → list_all two xs ≡ true
 all_more one two [] more all = refl
 all_more one two (x ∷ xs) more all =
-    ap₂ (λ (a b : Bool). a && b) (more x (and_left (one x) (list_all one xs) all))
-    (all_more one two xs more (and_right (one x) (list_all one xs) all))
+    ap₂ (λ (a b : Bool). a && b) (more x (and_parts (one x) (list_all one xs) all).0)
+    (all_more one two xs more (and_parts (one x) (list_all one xs) all).1)
 
 or_true : (b : Bool) → (b || true) ≡ true
 or_true true = refl
@@ -149,10 +150,10 @@ pub layers_front : (program : Program) (below : List ℕ) (xs ys : List (List �
     are_layers program below xs ≡ true
 layers_front program below [] ys is = refl
 layers_front program below (x ∷ xs) ys is =
-    ap₂ (λ (a b : Bool). a && b) (and_left (is_layer program below x)
-    (are_layers program (below ++ x) (xs ++ ys)) is)
-    (layers_front program (below ++ x) xs ys (and_right (is_layer program below x)
-    (are_layers program (below ++ x) (xs ++ ys)) is))
+    ap₂ (λ (a b : Bool). a && b) (and_parts (is_layer program below x)
+    (are_layers program (below ++ x) (xs ++ ys)) is).0
+    (layers_front program (below ++ x) xs ys (and_parts (is_layer program below x)
+    (are_layers program (below ++ x) (xs ++ ys)) is).1)
 
 -- the first of some layers and the last of them
 pub record AreFrontAndLast (program : Program) (below : List ℕ) (layers : List (List ℕ))
@@ -166,16 +167,16 @@ pub layers_parts : (program : Program) (below : List ℕ) (layers : List (List �
 layers_parts program below [] layer is = record {
   front = refl;
   last = subst (λ (units : List ℕ). is_layer program units layer ≡ true) (sym (append-nil below))
-      (and_left (is_layer program below layer) true is);
+      (and_parts (is_layer program below layer) true is).0;
 }
 layers_parts program below (first ∷ rest) layer is =
     let here : is_layer program below first ≡ true =
-    and_left (is_layer program below first) (are_layers program (below ++ first)
-    (rest ++ layer ∷ [])) is in
+    (and_parts (is_layer program below first) (are_layers program (below ++ first)
+    (rest ++ layer ∷ [])) is).0 in
     let later : AreFrontAndLast program (below ++ first) rest layer =
     layers_parts program (below ++ first) rest layer
-    (and_right (is_layer program below first) (are_layers program (below ++ first)
-    (rest ++ layer ∷ [])) is) in
+    (and_parts (is_layer program below first) (are_layers program (below ++ first)
+    (rest ++ layer ∷ [])) is).1 in
     record {
       front = ap₂ (λ (a b : Bool). a && b) here later.front;
       last = subst (λ (units : List ℕ). is_layer program units layer ≡ true)

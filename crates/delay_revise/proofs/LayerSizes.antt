@@ -11,7 +11,8 @@ use Rattle.std.proofs.lemmas.Map.Steps.{length-le_from_distinct_below}
 use Rattle.ground_types.specs.Meaning.{is_layer, are_layers, IsLayered}
 use Rattle.ground_types.specs.Members.{contains}
 use Rattle.ground_types.specs.Sound.{IsSound}
-use Rattle.ground_types.proofs.Members.{and_left, and_right, contains_neither}
+use Rattle.ground_types.proofs.Members.{contains_neither}
+use Rattle.std.proofs.lemmas.Bool.{and_parts}
 use Rattle.ground_types.specs.declared.program.Program.{Program}
 use Rattle.delay_revise.proofs.LayerParts.{IsFirstUnit, first_unit}
 
@@ -32,10 +33,10 @@ layers_by : (program : Program) (below : List ℕ) (layers : List (List ℕ))
 layers_by program below [] is = refl
 layers_by program below (layer ∷ rest) is =
     ap₂ (λ (a b : Bool). a && b)
-    (layer_known program below layer (and_left (is_layer program below layer)
-    (are_layers program (below ++ layer) rest) is))
-    (layers_by program (below ++ layer) rest (and_right (is_layer program below layer)
-    (are_layers program (below ++ layer) rest) is))
+    (layer_known program below layer (and_parts (is_layer program below layer)
+    (are_layers program (below ++ layer) rest) is).0)
+    (layers_by program (below ++ layer) rest (and_parts (is_layer program below layer)
+    (are_layers program (below ++ layer) rest) is).1)
 
 -- each unit of a layer is one of the program
 pub layers_known : (program : Program) → IsLayered program
@@ -79,8 +80,8 @@ below_of : (n : ℕ) (xs : List ℕ) (q : ℕ) → are_below n xs ≡ true → l
     → q < n
 below_of n [] q all at = cc
 below_of n (x ∷ xs) q all at =
-    below_by n q x (list_any (eqb q) xs) (and_left (ltb x n) (are_below n xs) all)
-    (λ later. below_of n xs q (and_right (ltb x n) (are_below n xs) all) later) at
+    below_by n q x (list_any (eqb q) xs) (and_parts (ltb x n) (are_below n xs) all).0
+    (λ later. below_of n xs q (and_parts (ltb x n) (are_below n xs) all).1 later) at
 
 few_by : (program : Program) (below units : List ℕ) (layers : List (List ℕ))
     → are_layers program below layers ≡ true →
@@ -94,11 +95,11 @@ few_by program below units [] is out distinct all =
           (λ q at. below_of (length program.units) units q all at),
     )
 few_by program below units (layer ∷ rest) is out distinct all =
-    let here : is_layer program below layer ≡ true = and_left (is_layer program below layer)
-    (are_layers program (below ++ layer) rest) is in
+    let here : is_layer program below layer ≡ true =
+    (and_parts (is_layer program below layer) (are_layers program (below ++ layer) rest) is).0 in
     let later : length (layer ++ units) + sum_by length rest ≤ length program.units =
     few_by program (below ++ layer) (layer ++ units) rest
-    (and_right (is_layer program below layer) (are_layers program (below ++ layer) rest) is)
+    (and_parts (is_layer program below layer) (are_layers program (below ++ layer) rest) is).1
     (λ unit none. let both = contains_neither below layer unit none in
     out_of_both layer units unit both.1 (out unit both.0))
     (distinct_more program below units layer here out distinct)

@@ -19,7 +19,7 @@ use Rattle.ground_types.specs.Sound.{is_derived_event, trigger_fits, what_fits, 
 use Rattle.ground_types.specs.Truth.{Table, holds, happens, is_so, condition_holds, body_holds}
 use Rattle.ground_types.specs.Windows.{left, right}
 use Rattle.ground_types.proofs.Layers.{layers_are_meaning}
-use Rattle.ground_types.proofs.Members.{and_left, and_right}
+use Rattle.std.proofs.lemmas.Bool.{and_parts}
 use Rattle.ground_types.proofs.Points.{points_are}
 use Rattle.ground_types.proofs.Rows.{runs_are}
 use Rattle.ground_types.specs.declared.entries.Entry.{Entry}
@@ -152,11 +152,11 @@ module _ (program : Program) (history : List Entry) (store : Events) (below : Li
       let table = query_table program history 0 in
       let w = left program.plan 0 in
       let q = right program.plan 0 in
-      let few : nat_lt v (unit_values program unit) ≡ true = and_right (is_fluent unit.kind)
-      (nat_lt v (unit_values program unit)) fits in
+      let few : nat_lt v (unit_values program unit) ≡ true =
+      (and_parts (is_fluent unit.kind) (nat_lt v (unit_values program unit)) fits).1 in
       fluent_has_row table number (unit_values program unit) unit.kind w q v t
       (slice_get rows number)
-      (and_left (is_fluent unit.kind) (nat_lt v (unit_values program unit)) fits)
+      (and_parts (is_fluent unit.kind) (nat_lt v (unit_values program unit)) fits).0
       (grind (arith, nat_tests))
       (worked.each number unit at done history stand)
       ∙ covers_inside (holds table number v) w q t above within
@@ -184,7 +184,8 @@ module _ (program : Program) (history : List Entry) (store : Events) (below : Li
 
   first_done : (number : ℕ) (rest : List ℕ) → list_all (contains below) (number ∷ rest) ≡ true
       → contains below number ≡ true
-  first_done number rest all = and_left (contains below number) (list_all (contains below) rest) all
+  first_done number rest all = (and_parts (contains below number) (list_all (contains below) rest)
+      all).0
 
   -- a trigger happens at an event point where it does so over the rows
   pub trigger_found : (trigger : Trigger) (t : ℕ) → trigger_fits program trigger ≡ true
@@ -229,14 +230,14 @@ module _ (program : Program) (history : List Entry) (store : Events) (below : Li
       more) ≡ true =
       sym (list_all-append (contains below) (units_of_what c.what) more) ∙ done in
       ap₂ (λ (a b : Bool). cond c.positive a (not a) && b)
-      (what_found c.what t (and_left (what_fits program c.what)
-      (list_all (λ cond. what_fits program cond.what) rest) fit)
-      (and_left (list_all (contains below) (units_of_what c.what)) (list_all (contains below) more)
-      all) above within)
-      (conditions_found rest t (and_right (what_fits program c.what)
-      (list_all (λ cond. what_fits program cond.what) rest) fit)
-      (and_right (list_all (contains below) (units_of_what c.what)) (list_all (contains below)
-      more) all) above within)
+      (what_found c.what t (and_parts (what_fits program c.what)
+      (list_all (λ cond. what_fits program cond.what) rest) fit).0
+      (and_parts (list_all (contains below) (units_of_what c.what)) (list_all (contains below)
+      more) all).0 above within)
+      (conditions_found rest t (and_parts (what_fits program c.what)
+      (list_all (λ cond. what_fits program cond.what) rest) fit).1
+      (and_parts (list_all (contains below) (units_of_what c.what)) (list_all (contains below)
+      more) all).1 above within)
 
   -- a body is true at an event point where it is so over the rows
   pub body_found : (values : ℕ) (rule : Rule) (t : ℕ) → rule_fits program values rule ≡ true
@@ -248,14 +249,15 @@ module _ (program : Program) (history : List Entry) (store : Events) (below : Li
       let others : Bool = list_all (λ cond. what_fits program cond.what) rule.conds in
       let more : List ℕ = flat_map (λ cond. units_of_what cond.what) rule.conds in
       let first : (nat_lt rule.value values && triggers) ≡ true =
-      and_left (nat_lt rule.value values && triggers) others fits in
+      (and_parts (nat_lt rule.value values && triggers) others fits).0 in
       let all : (list_all (contains below) (units_of_trigger rule.trigger)
       && list_all (contains below) more) ≡ true =
       sym (list_all-append (contains below) (units_of_trigger rule.trigger) more) ∙ done in
       ap₂ (λ (a b : Bool). a && b)
-      (trigger_found rule.trigger t (and_right (nat_lt rule.value values) triggers first)
-      (and_left (list_all (contains below) (units_of_trigger rule.trigger))
-      (list_all (contains below) more) all) above within)
-      (conditions_found rule.conds t (and_right (nat_lt rule.value values && triggers) others fits)
-      (and_right (list_all (contains below) (units_of_trigger rule.trigger))
-      (list_all (contains below) more) all) above within)
+      (trigger_found rule.trigger t (and_parts (nat_lt rule.value values) triggers first).1
+      (and_parts (list_all (contains below) (units_of_trigger rule.trigger))
+      (list_all (contains below) more) all).0 above within)
+      (conditions_found rule.conds t (and_parts (nat_lt rule.value values && triggers) others
+      fits).1
+      (and_parts (list_all (contains below) (units_of_trigger rule.trigger))
+      (list_all (contains below) more) all).1 above within)

@@ -1,8 +1,8 @@
 -- Where the input events of query 0 occur.
 use Rattle.std.proofs.Common.{◌≡◌, ℕ, zero, suc, ◌+◌, ◌<◌, ◌≤◌, Bool, true, false, ◌&&◌, ◌||◌, leb}
-use Rattle.std.proofs.Common.{ltb, eqb, List, [], ◌∷◌, map, refl, sym, ◌∙◌, ap, ap₂, arith}
+use Rattle.std.proofs.Common.{ltb, eqb, List, [], ◌∷◌, map, sym, ◌∙◌, ap, ap₂, arith}
 use Rattle.std.specs.List.{flat_map, range_with_len}
-use Rattle.std.proofs.Math.Bool.{and-false}
+use Rattle.std.proofs.Math.Bool.{and-false, and-or_distrib_left}
 use Rattle.std.proofs.lemmas.Bool.Decides.{nat_tests}
 use Rattle.std.proofs.lemmas.List.Folds.{list_any-append}
 use Rattle.ground_types.specs.Members.{contains}
@@ -18,17 +18,13 @@ use Rattle.span_algebra.specs.Normal.{has}
 use Rattle.event_store.specs.Standing.{Events, standing}
 use Rattle.delay_revise.specs.Published.{Stand}
 
-and_or : (a b c : Bool) → ((a && b) || (a && c)) ≡ (a && (b || c))
-and_or true b c = refl
-and_or false b c = refl
-
 among_one : (event other t : ℕ) (xs : List ℕ)
     → is_among (map (λ t. record { event = other; at = t }) xs) event t
     ≡ (eqb other event && contains xs t)
 among_one event other t [] = sym (and-false (eqb other event))
 among_one event other t (x ∷ xs) =
     ap (λ (b : Bool). (eqb other event && eqb x t) || b) (among_one event other t xs)
-    ∙ and_or (eqb other event) (eqb x t) (contains xs t)
+    ∙ sym (and-or_distrib_left (eqb other event) (eqb x t) (contains xs t))
 
 none_among : (a e : ℕ) (b : Bool) → false ≡ (leb a e && ltb e (a + 0) && b)
 none_among a e b = grind (arith, nat_tests)

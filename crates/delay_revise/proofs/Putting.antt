@@ -15,7 +15,7 @@ use Rattle.ground_types.specs.Sound.{IsSound, unit_values, is_fluent_value, is_d
 use Rattle.ground_types.specs.Sound.{trigger_fits, what_fits, rule_fits, kind_fits}
 use Rattle.ground_types.specs.Touched.{rules_of}
 use Rattle.ground_types.specs.Windows.{left, right}
-use Rattle.ground_types.proofs.Members.{and_left, and_right}
+use Rattle.std.proofs.lemmas.Bool.{and_parts, lt-ltb}
 use Rattle.ground_types.specs.declared.program.Cond.{Cond}
 use Rattle.ground_types.specs.declared.program.Rule.{Rule}
 use Rattle.ground_types.specs.declared.program.Trigger.{Trigger}
@@ -38,21 +38,18 @@ use Rattle.delay_revise.proofs.InWindow.{put_inside}
 use Rattle.delay_revise.proofs.KindRows.{DoesFit, fits_simple}
 use Rattle.delay_revise.proofs.WorkedUnits.{unit_of, works_unit}
 
-below_test : (m n : ℕ) → m < n → nat_lt m n ≡ true
-below_test m n lt = grind (arith, nat_tests)
-
 pub fluent_known : (program : Program) (number v : ℕ) (found : Option Unit)
     → slice_get program.units number ≡ found →
     is_fluent_value program found v ≡ true → nat_lt number (length program.units) ≡ true
 fluent_known program number v None at fits = cc
-fluent_known program number v (Some unit) at fits = below_test number (length program.units)
+fluent_known program number v (Some unit) at fits = lt-ltb number (length program.units)
     (slice_get_within program.units number unit at)
 
 event_known : (program : Program) (number : ℕ) (found : Option Unit)
     → slice_get program.units number ≡ found → is_derived_event found ≡ true →
     nat_lt number (length program.units) ≡ true
 event_known program number None at fits = cc
-event_known program number (Some unit) at fits = below_test number (length program.units)
+event_known program number (Some unit) at fits = lt-ltb number (length program.units)
     (slice_get_within program.units number unit at)
 
 -- the units that a rule names are units of the program
@@ -82,10 +79,10 @@ module _ (program : Program) where
       list_all-append (λ unit. nat_lt unit (length program.units)) (units_of_what c.what)
       (flat_map (λ cond. units_of_what cond.what) rest)
       ∙ ap₂ (λ (a b : Bool). a && b)
-      (what_named c.what (and_left (what_fits program c.what)
-      (list_all (λ cond. what_fits program cond.what) rest) fit))
-      (conditions_named rest (and_right (what_fits program c.what)
-      (list_all (λ cond. what_fits program cond.what) rest) fit))
+      (what_named c.what (and_parts (what_fits program c.what)
+      (list_all (λ cond. what_fits program cond.what) rest) fit).0)
+      (conditions_named rest (and_parts (what_fits program c.what)
+      (list_all (λ cond. what_fits program cond.what) rest) fit).1)
 
   rule_named : (count : ℕ) (rule : Rule) → rule_fits program count rule ≡ true →
       list_all (λ unit. nat_lt unit (length program.units)) (units_of_rule rule) ≡ true
@@ -96,9 +93,9 @@ module _ (program : Program) where
       list_all-append (λ unit. nat_lt unit (length program.units)) (units_of_trigger rule.trigger)
       (flat_map (λ cond. units_of_what cond.what) rule.conds)
       ∙ ap₂ (λ (a b : Bool). a && b)
-      (trigger_named rule.trigger (and_right first triggers (and_left (first && triggers) others
-      fits)))
-      (conditions_named rule.conds (and_right (first && triggers) others fits))
+      (trigger_named rule.trigger (and_parts first triggers (and_parts (first && triggers) others
+      fits).0).1)
+      (conditions_named rule.conds (and_parts (first && triggers) others fits).1)
 
   rules_named : (count : ℕ) (rules : List Rule) (rows : List UnitRows)
       → length rows ≡ length program.units →
@@ -106,10 +103,10 @@ module _ (program : Program) where
   rules_named count [] rows size fit = tt
   rules_named count (rule ∷ rest) rows size fit = (
     ap (λ (n : ℕ). list_all (λ unit. nat_lt unit n) (units_of_rule rule)) size
-        ∙ rule_named count rule (and_left (rule_fits program count rule)
-        (list_all (rule_fits program count) rest) fit),
-    rules_named count rest rows size (and_right (rule_fits program count rule)
-        (list_all (rule_fits program count) rest) fit),
+        ∙ rule_named count rule (and_parts (rule_fits program count rule)
+        (list_all (rule_fits program count) rest) fit).0,
+    rules_named count rest rows size (and_parts (rule_fits program count rule)
+        (list_all (rule_fits program count) rest) fit).1,
   )
 
   kind_named : (count : ℕ) (kind : UnitKind) (rows : List UnitRows)
@@ -241,12 +238,14 @@ module _ (program : Program) (store : Events) (number : ℕ) (old : List UnitRow
       Works program store (number ∷ []) old old count
   unit_idle count is idle =
       let first : (not (is_static unit.kind) && eqb count 0) ≡ true =
-      and_left (not (is_static unit.kind) && eqb count 0) (is_none (initial_of unit.kind)) idle in
+      (and_parts (not (is_static unit.kind) && eqb count 0) (is_none (initial_of unit.kind))
+      idle).0 in
       works_unit program store sound number old old count refl (λ inside. inside)
-      (put_none count (not_static (is_static unit.kind) (and_left (not (is_static unit.kind))
-      (eqb count 0) first)) is
-      (and_right (not (is_static unit.kind)) (eqb count 0) first)
-      (and_right (not (is_static unit.kind) && eqb count 0) (is_none (initial_of unit.kind)) idle))
+      (put_none count (not_static (is_static unit.kind) (and_parts (not (is_static unit.kind))
+      (eqb count 0) first).0) is
+      (and_parts (not (is_static unit.kind)) (eqb count 0) first).1
+      (and_parts (not (is_static unit.kind) && eqb count 0) (is_none (initial_of unit.kind))
+      idle).1)
       (evaluations_there count is)
 
 -- the unit that is read is there

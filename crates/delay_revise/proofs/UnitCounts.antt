@@ -1,6 +1,6 @@
 -- How many bodies of a unit have to be looked at.
-use Rattle.std.proofs.Common.{◌≡◌, ℕ, suc, nat_lt, ◌+◌, ◌-◌, ◌*◌, ◌^◌, ◌<◌, ◌≤◌, Bool, true, false}
-use Rattle.std.proofs.Common.{cond, ◌&&◌, List, [], ◌∷◌, ◌++◌, length, filter, flat_map, Option}
+use Rattle.std.proofs.Common.{◌≡◌, ℕ, nat_lt, ◌+◌, ◌-◌, ◌*◌, ◌^◌, ◌<◌, ◌≤◌, Bool, true}
+use Rattle.std.proofs.Common.{◌&&◌, List, [], ◌∷◌, ◌++◌, length, flat_map, Option}
 use Rattle.std.proofs.Common.{refl, sym, ◌∙◌, ap, ap₂, arith}
 use Rattle.std.specs.Prelude.{sum_by}
 use Rattle.std.specs.List.{list_all, range_with_len}
@@ -21,7 +21,8 @@ use Rattle.ground_types.specs.Sound.{rule_count}
 use Rattle.ground_types.specs.Touched.{touched, rules_of, evaluations_of_unit}
 use Rattle.ground_types.specs.Truth.{Table, happens}
 use Rattle.ground_types.specs.Windows.{left, right}
-use Rattle.ground_types.proofs.Members.{and_left, and_right}
+use Rattle.std.proofs.lemmas.Bool.{and_parts}
+use Rattle.std.proofs.lemmas.List.Sums.{length-filter, count_by-le-length}
 use Rattle.ground_types.specs.declared.entries.Entry.{Entry}
 use Rattle.ground_types.specs.declared.program.Rule.{Rule}
 use Rattle.ground_types.specs.declared.program.UnitKind.{UnitKind}
@@ -37,20 +38,12 @@ use Rattle.delay_revise.proofs.Alike.{points_alike}
 use Rattle.delay_revise.proofs.KindRows.{DoesFit, fits_simple, all_left, all_right}
 use Rattle.delay_revise.proofs.LookUp.{trigger_found}
 
-kept_by : (b : Bool) (x : ℕ) (xs : List ℕ) (most : ℕ) → length xs ≤ most
-    → length (cond b (x ∷ xs) xs) ≤ suc most
-kept_by true x xs most le = omega (arith, le)
-kept_by false x xs most le = omega (arith, le)
-
-filter_few : (test : ℕ → Bool) (xs : List ℕ) → length (filter test xs) ≤ length xs
-filter_few test [] = omega arith
-filter_few test (x ∷ xs) = kept_by (test x) x (filter test xs) (length xs) (filter_few test xs)
-
 -- a window has as many points as it is long
 pub points_few : (test : ℕ → Bool) (w q : ℕ) → length (points test w q) ≤ q - w
 points_few test w q = omega (
   arith,
-  filter_few test (range_with_len (w + 1) (q - w)),
+  length-filter test (range_with_len (w + 1) (q - w)),
+  count_by-le-length test (range_with_len (w + 1) (q - w)),
   length-range_with_len (w + 1) (q - w),
 )
 
@@ -97,9 +90,9 @@ simple_few table kind initially initiate terminate xs ys w q m n kind_is few fir
 fits_trigger : (program : Program) (count : ℕ) (rule : Rule) → rule_fits program count rule ≡ true
     → trigger_fits program rule.trigger ≡ true
 fits_trigger program count rule fits =
-    and_right (nat_lt rule.value count) (trigger_fits program rule.trigger)
-    (and_left (nat_lt rule.value count && trigger_fits program rule.trigger)
-    (list_all (λ cond. what_fits program cond.what) rule.conds) fits)
+    (and_parts (nat_lt rule.value count) (trigger_fits program rule.trigger)
+    (and_parts (nat_lt rule.value count && trigger_fits program rule.trigger)
+    (list_all (λ cond. what_fits program cond.what) rule.conds) fits).0).1
 
 module _ (program : Program) (history : List Entry) (store : Events) (below : List ℕ)
     (rows : List UnitRows)
@@ -132,10 +125,10 @@ module _ (program : Program) (history : List Entry) (store : Events) (below : Li
       (left program.plan 0) (right program.plan 0))) rule rest
       ∙ ap₂ (λ (m n : ℕ). m + n)
       (ap (λ (l : List ℕ). length l) (rule_counted count rule
-      (and_left (rule_fits program count rule) (list_all (rule_fits program count) rest) fit)
+      (and_parts (rule_fits program count rule) (list_all (rule_fits program count) rest) fit).0
       (all_left (contains below) (units_of_rule rule) (flat_map units_of_rule rest) done)))
-      (rules_counted count rest (and_right (rule_fits program count rule)
-      (list_all (rule_fits program count) rest) fit)
+      (rules_counted count rest (and_parts (rule_fits program count rule)
+      (list_all (rule_fits program count) rest) fit).1
       (all_right (contains below) (units_of_rule rule) (flat_map units_of_rule rest) done))
       ∙ sym (sum_by-cons (λ (rule : Rule). length (touched program history 0 rule)) rule rest)
 

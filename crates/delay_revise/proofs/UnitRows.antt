@@ -1,9 +1,9 @@
 -- The rows of a unit follow from the points of its rules.
-use Rattle.std.proofs.Common.{◌≡◌, inl, ℕ, zero, suc, ◌+◌, ◌<◌, ◌≤◌, Bool, true, false, ◌&&◌, ◌||◌}
+use Rattle.std.proofs.Common.{◌≡◌, inl, ℕ, zero, suc, ◌+◌, ◌<◌, ◌≤◌, Bool, true, ◌&&◌, ◌||◌}
 use Rattle.std.proofs.Common.{ltb, leb, List, [], ◌∷◌, ◌++◌, map, length, Option, Some, None, refl}
 use Rattle.std.proofs.Common.{sym, ◌∙◌, ap, ap₂, arith, subst}
 use Rattle.std.specs.List.{list_any, list_all, range_with_len, AllByRecursion}
-use Rattle.std.proofs.Math.Bool.{and-false}
+use Rattle.std.proofs.Math.Bool.{and-false, and-or_distrib_left}
 use Rattle.std.proofs.lemmas.Bool.Decides.{nat_tests}
 use Rattle.ground_types.specs.Truth.{Table, body_holds, is_value}
 use Rattle.ground_types.specs.Members.{contains}
@@ -13,7 +13,7 @@ use Rattle.ground_types.specs.Rows.{row, points}
 use Rattle.ground_types.specs.Publication.{fluent_rows, event_row, initial_of}
 use Rattle.ground_types.specs.Sound.{kind_fits, rule_fits, initial_fits, trigger_fits, what_fits}
 use Rattle.ground_types.specs.Touched.{rules_of}
-use Rattle.ground_types.proofs.Members.{and_left, and_right}
+use Rattle.std.proofs.lemmas.Bool.{and_parts}
 use Rattle.ground_types.proofs.Points.{points_are}
 use Rattle.ground_types.specs.declared.program.Program.{Program}
 use Rattle.ground_types.specs.declared.program.Rule.{Rule}
@@ -22,7 +22,7 @@ use Rattle.ground_types.specs.declared.program.UnitKind.TheVariants as unit_kind
 use Rattle.span_algebra.specs.Normal.{IsRising}
 use Rattle.simple_fluent.specs.Rows.{rows_of, IsValueBelow}
 use Rattle.derived_event.proofs.Rising.{points_of_window}
-use Rattle.delay_revise.specs.Working.{rows_over}
+use Rattle.delay_revise.specs.Working.{rows_over, IsSimple}
 use Rattle.delay_revise.proofs.Alike.{row_alike, value_alike}
 
 -- ---- what is known of a unit
@@ -36,33 +36,25 @@ values_below : (program : Program) (values : ℕ) (rules : List Rule)
     list_all (λ rule. ltb rule.value values) rules ≡ true
 values_below program values [] is = refl
 values_below program values (rule ∷ rest) is =
-    let here : rule_fits program values rule ≡ true = and_left (rule_fits program values rule)
-    (list_all (rule_fits program values) rest) is in
+    let here : rule_fits program values rule ≡ true =
+    (and_parts (rule_fits program values rule) (list_all (rule_fits program values) rest) is).0
+    in
     ap₂ (λ (a b : Bool). a && b)
-    (and_left (ltb rule.value values) (trigger_fits program rule.trigger)
-    (and_left (ltb rule.value values && trigger_fits program rule.trigger)
-    (list_all (λ cond. what_fits program cond.what) rule.conds) here))
-    (values_below program values rest (and_right (rule_fits program values rule)
-    (list_all (rule_fits program values) rest) is))
+    (and_parts (ltb rule.value values) (trigger_fits program rule.trigger)
+    (and_parts (ltb rule.value values && trigger_fits program rule.trigger)
+    (list_all (λ cond. what_fits program cond.what) rule.conds) here).0).0
+    (values_below program values rest (and_parts (rule_fits program values rule)
+    (list_all (rule_fits program values) rest) is).1)
 
-all_left : (P : Rule → Type 0) (xs ys : List Rule) → AllByRecursion P (xs ++ ys)
+each_left : (P : Rule → Type 0) (xs ys : List Rule) → AllByRecursion P (xs ++ ys)
     → AllByRecursion P xs
-all_left P [] ys all = tt
-all_left P (x ∷ xs) ys all = (all.0, all_left P xs ys all.1)
+each_left P [] ys all = tt
+each_left P (x ∷ xs) ys all = (all.0, each_left P xs ys all.1)
 
-all_right : (P : Rule → Type 0) (xs ys : List Rule) → AllByRecursion P (xs ++ ys)
+each_right : (P : Rule → Type 0) (xs ys : List Rule) → AllByRecursion P (xs ++ ys)
     → AllByRecursion P ys
-all_right P [] ys all = all
-all_right P (x ∷ xs) ys all = all_right P xs ys all.1
-
--- what is known of a simple fluent with so many values, all of whose rules are so
-pub record IsSimple (P : Rule → Type 0) (values : ℕ) (initially : Option ℕ)
-    (initiate terminate : List Rule) : Type 0 where
-  pub opens : IsValueBelow values initially
-  pub inits : list_all (λ rule. ltb rule.value values) initiate ≡ true
-  pub terms : list_all (λ rule. ltb rule.value values) terminate ≡ true
-  pub each_init : AllByRecursion P initiate
-  pub each_term : AllByRecursion P terminate
+each_right P [] ys all = all
+each_right P (x ∷ xs) ys all = each_right P xs ys all.1
 
 simple_by : (program : Program) (P : Rule → Type 0) (values : ℕ) (initially : Option ℕ)
     (initiate terminate : List Rule) →
@@ -72,18 +64,18 @@ simple_by : (program : Program) (P : Rule → Type 0) (values : ℕ) (initially 
 simple_by program P values initially initiate terminate fits all =
     let some : (initial_fits values initially && list_all (rule_fits program values) initiate)
     ≡ true =
-    and_left (initial_fits values initially && list_all (rule_fits program values) initiate)
-    (list_all (rule_fits program values) terminate) fits in
+    (and_parts (initial_fits values initially && list_all (rule_fits program values) initiate)
+    (list_all (rule_fits program values) terminate) fits).0 in
     record {
-      opens = initial_below values initially (and_left (initial_fits values initially)
-          (list_all (rule_fits program values) initiate) some);
-      inits = values_below program values initiate (and_right (initial_fits values initially)
-          (list_all (rule_fits program values) initiate) some);
+      opens = initial_below values initially (and_parts (initial_fits values initially)
+          (list_all (rule_fits program values) initiate) some).0;
+      inits = values_below program values initiate (and_parts (initial_fits values initially)
+          (list_all (rule_fits program values) initiate) some).1;
       terms = values_below program values terminate
-          (and_right (initial_fits values initially && list_all (rule_fits program values)
-          initiate) (list_all (rule_fits program values) terminate) fits);
-      each_init = all_left P initiate terminate all;
-      each_term = all_right P initiate terminate all;
+          (and_parts (initial_fits values initially && list_all (rule_fits program values)
+          initiate) (list_all (rule_fits program values) terminate) fits).1;
+      each_init = each_left P initiate terminate all;
+      each_term = each_right P initiate terminate all;
     }
 
 pub simple_of : (program : Program) (P : Rule → Type 0) (values count : ℕ) (kind : UnitKind)
@@ -105,7 +97,7 @@ each_row f g a zero same = refl
 each_row f g a (suc n) same = ap₂ (λ (x : List (ℕ × ℕ)) (xs : List (List (ℕ × ℕ))). x ∷ xs)
     (same a) (each_row f g (a + 1) n same)
 
-simple_rows : (table : Table) (initially : Option ℕ) (initiate terminate : List Rule)
+pub simple_rows : (table : Table) (initially : Option ℕ) (initiate terminate : List Rule)
     (inits terms : List (List ℕ)) (count w q : ℕ) → length inits ≡ count →
     ((v t : ℕ) → w < t → t ≤ q → contains (values_with 0 inits t) v
     ≡ contains (values_of table initiate t) v) →
@@ -129,24 +121,16 @@ simple_rows table initially initiate terminate inits terms count w q many ins ou
     v) w q) (range_with_len 0 n)) many)
 
 pub fluent_rows_are : (table : Table) (kind : UnitKind) (initially : Option ℕ)
-    (initiate terminate : List Rule) (inits terms : List (List ℕ)) (values count w q : ℕ) →
-    kind ≡ unit_kind.Simple initially initiate terminate → count ≡ values → length inits ≡ count →
-    ((v t : ℕ) → w < t → t ≤ q → contains (values_with 0 inits t) v
-    ≡ contains (values_of table initiate t) v) →
-    ((v t : ℕ) → w < t → t ≤ q → contains (values_with 0 terms t) v
-    ≡ contains (values_of table terminate t) v) →
-    fluent_rows (rows_of initially inits terms w q) ≡ rows_over table (initial_of kind) values kind
-    w q
-fluent_rows_are table kind initially initiate terminate inits terms values count w q is many have
-    ins outs =
-    simple_rows table initially initiate terminate inits terms values w q (have ∙ many) ins outs
+    (initiate terminate : List Rule) (values count w q : ℕ) →
+    kind ≡ unit_kind.Simple initially initiate terminate → count ≡ values →
+    rows_over table initially count (unit_kind.Simple initially initiate terminate) w q
+    ≡ rows_over table (initial_of kind) values kind w q
+fluent_rows_are table kind initially initiate terminate values count w q is many =
+    ap (λ (n : ℕ). rows_over table initially n (unit_kind.Simple initially initiate terminate) w q)
+    many
     ∙ ap (λ (k : UnitKind). rows_over table (initial_of k) values k w q) (sym is)
 
 -- ---- the points of a derived event
-
-inside_or : (a b c : Bool) → ((a && b) || (a && c)) ≡ (a && (b || c))
-inside_or true b c = refl
-inside_or false b c = refl
 
 some_points : (table : Table) (rules : List Rule) (w q t : ℕ) → w ≤ q →
     list_any (λ rule. contains (points (body_holds table rule) w q) t) rules
@@ -155,8 +139,8 @@ some_points table [] w q t le = sym (and-false (ltb w t && leb t q))
 some_points table (rule ∷ rest) w q t le =
     ap₂ (λ (a b : Bool). a || b) ((points_are (body_holds table rule) w q le).each t)
     (some_points table rest w q t le)
-    ∙ inside_or (ltb w t && leb t q) (body_holds table rule t)
-    (list_any (λ rule. body_holds table rule t) rest)
+    ∙ sym (and-or_distrib_left (ltb w t && leb t q) (body_holds table rule t)
+    (list_any (λ rule. body_holds table rule t) rest))
 
 pub event_row_is : (table : Table) (kind : UnitKind) (rules given : List Rule) (found : List ℕ)
     (values w q : ℕ) → w < q →

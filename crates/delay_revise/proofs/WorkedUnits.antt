@@ -19,7 +19,8 @@ use Rattle.ground_types.specs.Recognition.{kind_of, kind_or_idle}
 use Rattle.ground_types.specs.Sound.{IsSound, unit_values, kind_fits}
 use Rattle.ground_types.specs.Touched.{evaluations_of_unit, evaluations}
 use Rattle.ground_types.specs.Windows.{left, right}
-use Rattle.ground_types.proofs.Members.{and_left, and_right, contains_either, contains_neither}
+use Rattle.ground_types.proofs.Members.{contains_either, contains_neither}
+use Rattle.std.proofs.lemmas.Bool.{and_parts}
 use Rattle.ground_types.proofs.Members.{first_or_rest}
 use Rattle.ground_types.specs.declared.entries.Entry.{Entry}
 use Rattle.ground_types.specs.declared.program.Unit.{Unit}
@@ -42,9 +43,9 @@ pub all_at : {X : Type 0} (test : X → Bool) (xs : List X) (k : ℕ) (x : X) �
     → slice_get xs k ≡ Some x → test x ≡ true
 all_at test [] k x all is = cc
 all_at test (y ∷ ys) zero x all is = let same : y ≡ x = cc in ap test (sym same)
-    ∙ and_left (test y) (list_all test ys) all
-all_at test (y ∷ ys) (suc k) x all is = all_at test ys k x (and_right (test y) (list_all test ys)
-    all) is
+    ∙ (and_parts (test y) (list_all test ys) all).0
+all_at test (y ∷ ys) (suc k) x all is = all_at test ys k x (and_parts (test y) (list_all test ys)
+    all).1 is
 
 -- what is known of a unit of a sound program
 pub record IsUnitOf (program : Program) (number : ℕ) (unit : Unit) : Type 0 where

@@ -1,4 +1,5 @@
--- Evidence that the definitions say what is meant: each equation holds by computation alone.
+-- No contract speaks by this: evidence, by computation alone, that the definitions say what is
+-- meant.
 use Rattle.std.specs.Prelude.{◌≡◌, ℕ, List, [], ◌∷◌, None, Some, refl}
 use Rattle.ground_types.specs.Examples.{gear}
 use Rattle.ground_types.specs.Publication.{fluent_rows}

@@ -1,4 +1,4 @@
--- What is computed, against what is published of a history.
+-- Public contracts speak by this: what is computed, against what is published of a history.
 use Rattle.std.specs.Prelude.{◌≡◌, ◌<◌, ◌≤◌, ℕ, List, map}
 use Rattle.ground_types.specs.History.{stands}
 use Rattle.ground_types.specs.Windows.{left, right}

@@ -1,5 +1,5 @@
--- How far the rows of a program are worked, against what is published at the first seal of a
--- history.
+-- For private functions alone: how far the rows of a program are worked, against what is published
+-- at the first seal of a history.
 use Rattle.std.specs.Prelude.{◌≡◌, ◌≤◌, ◌+◌, ℕ, true, false, ◌==◌, List, ◌++◌, length, slice_get}
 use Rattle.std.specs.Prelude.{flat_map, sum_by, Some, option_map}
 use Rattle.ground_types.specs.History.{before_seal}

@@ -1,8 +1,8 @@
--- What a unit comes to over a table of what its rules name, and how far the rows of a program are
--- computed.
+-- For private functions alone: what a unit comes to over a table of what its rules name, and what is
+-- known of a unit and of rows while they are computed.
 use Rattle.std.specs.Prelude.{◌≡◌, ◌<◌, ◌≤◌, ℕ, ◌+◌, Bool, true, false, List, map, length}
-use Rattle.std.specs.Prelude.{slice_get, sum_by, Option}
-use Rattle.std.specs.List.{range_with_len}
+use Rattle.std.specs.Prelude.{slice_get, sum_by, nat_lt, Option}
+use Rattle.std.specs.List.{range_with_len, list_all, AllByRecursion}
 use Rattle.ground_types.specs.Truth.{Table, is_value, happens}
 use Rattle.ground_types.specs.Recognition.{value_of_unit, static_of_unit, derived_of_unit}
 use Rattle.ground_types.specs.Rows.{row, points}
@@ -13,6 +13,7 @@ use Rattle.ground_types.specs.declared.program.UnitKind.{UnitKind}
 use Rattle.ground_types.specs.declared.program.UnitKind.TheVariants as unit_kind
 use Rattle.layer_cache.specs.Told.{fluent_has}
 use Rattle.span_algebra.specs.declared.rows.UnitRows.{UnitRows}
+use Rattle.simple_fluent.specs.Rows.{IsValueBelow}
 
 -- a statically determined fluent
 abbrev pub is_static : UnitKind → Bool
@@ -46,3 +47,12 @@ evaluations_over table kind w q = evaluations_of table (rules_of kind) w q
 abbrev pub IsInWindow : ℕ → ℕ → List UnitRows → Type 0
 IsInWindow w q rows = (unit v t : ℕ) → fluent_has (slice_get rows unit) v t ≡ true → (w < t)
     × (t ≤ q + 1)
+
+-- what is known of a simple fluent with so many values, all of whose rules are so
+pub record IsSimple (P : Rule → Type 0) (values : ℕ) (initially : Option ℕ)
+    (initiate terminate : List Rule) : Type 0 where
+  pub opens : IsValueBelow values initially
+  pub inits : list_all (λ rule. nat_lt rule.value values) initiate ≡ true
+  pub terms : list_all (λ rule. nat_lt rule.value values) terminate ≡ true
+  pub each_init : AllByRecursion P initiate
+  pub each_term : AllByRecursion P terminate

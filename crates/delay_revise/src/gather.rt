@@ -6,7 +6,7 @@ ghost use Rattle.ground_types.specs.Members.{contains};
 ghost use Rattle.ground_types.specs.Inertia.{values_with};
 ghost use Rattle.ground_types.specs.Recognition.{values_of};
 ghost use Rattle.ground_types.specs.Rows.{points};
-ghost use Rattle.ground_types.specs.Truth.{body_holds};
+ghost use Rattle.ground_types.specs.Truth.{happens, body_holds};
 ghost use Rattle.span_algebra.specs.Normal.{IsRising};
 ghost use Rattle.simple_fluent.specs.Rows.{IsInside};
 ghost use Rattle.point_rule.specs.Known.{known, HasRows};
@@ -116,6 +116,36 @@ impl Parts {
         }
         self.join(alloc)
     }
+
+    // Adds the points of the window at which the body of one more rule is true.
+    fn push_rule<L: Ledger>(
+        &mut self,
+        alloc: Global,
+        rule: &Rule,
+        cache: &Cache,
+        store: &EventStore,
+        w: Point,
+        q: Point,
+        steps: &mut Steps<L>,
+    ) -> Result<(), OutOfMemory>
+        requires rows { HasRows cache.now.rows rule.now }
+        requires end { q < 2 ^ 64 - 1 }
+        ensures points { OnOk result ((t : ℕ) → list_any (λ points. contains points t) self.new
+            ≡ (list_any (λ points. contains points t) self.old
+            || contains (points (body_holds (known cache.now.rows store.now) rule.now) w q) t)) }
+        ensures steps { OnOk result (steps.new ≡ record {
+          count = steps.old.count + length (points (happens (known cache.now.rows store.now)
+              rule.now.trigger) w q);
+          out = steps.old.out;
+        }) }
+        ensures most { OnErr result (steps.new.count ≤ steps.old.count + length
+            (points (happens (known cache.now.rows store.now) rule.now.trigger) w q)) }
+        ensures parts { steps.new.out ≡ steps.old.out }
+    {
+        let none = Points::new(alloc);
+        let points = revise_rule(alloc, rule, &none, cache, store, None, w, q, steps)?;
+        self.push(alloc, points)
+    }
 }
 
 /// The points of the window at which the body of some rule is true. The time is about that of
@@ -144,11 +174,9 @@ pub(crate) fn points_of_rules<L: Ledger>(
         (known cache.now.rows store.now) rules.now w q) }
     ensures parts { steps.new.out ≡ steps.old.out }
 {
-    let none = Points::new(alloc);
     let mut parts = Parts::new(alloc);
     for rule in rules {
-        let points = revise_rule(alloc, rule, &none, cache, store, None, w, q, steps)?;
-        parts.push(alloc, points)?;
+        parts.push_rule(alloc, rule, cache, store, w, q, steps)?;
     }
     parts.points(alloc)
 }
@@ -192,11 +220,9 @@ fn parts_by_value<L: Ledger>(
         (known cache.now.rows store.now) rules.now w q) }
     ensures parts { steps.new.out ≡ steps.old.out }
 {
-    let none = Points::new(alloc);
     let mut parts = no_parts(alloc, count)?;
     for rule in rules {
-        let points = revise_rule(alloc, rule, &none, cache, store, None, w, q, steps)?;
-        parts[rule.value as usize].push(alloc, points)?;
+        parts[rule.value as usize].push_rule(alloc, rule, cache, store, w, q, steps)?;
     }
     Ok(parts)
 }

@@ -3,21 +3,22 @@ ghost use Rattle.std.specs.Prelude.{◌≡◌, ◌≤◌, ◌<◌, ◌+◌, ◌-
 ghost use Rattle.std.specs.Prelude.{IfOk, OnOk, OnErr};
 ghost use Rattle.std.specs.List.{list_all, AllByRecursion};
 ghost use Rattle.ground_types.specs.Meaning.{units_of_expr};
-ghost use Rattle.ground_types.specs.Publication.{initial_of};
+ghost use Rattle.ground_types.specs.Publication.{initial_of, fluent_rows};
 ghost use Rattle.ground_types.specs.Rows.{row};
 ghost use Rattle.ground_types.specs.Sound.{unit_values, kind_fits};
 ghost use Rattle.ground_types.specs.Touched.{rules_of};
 ghost use Rattle.ground_types.specs.Truth.{expr_holds};
+ghost use Rattle.ground_types.specs.declared.program.UnitKind.TheVariants.{Simple};
 ghost use Rattle.layer_cache.specs.Told.{told};
 ghost use Rattle.point_rule.specs.Known.{known, HasRows};
 ghost use Rattle.simple_fluent.specs.Rows.{pairs};
 ghost use Rattle.static_fluent.specs.Constructs.{has_members, has_rows};
 ghost use Rattle.delay_revise.specs.Published.{published};
-ghost use Rattle.delay_revise.specs.Working.{rows_over, evaluations_over, IsInWindow};
+ghost use Rattle.delay_revise.specs.Working.{rows_over, evaluations_over, IsInWindow, IsSimple};
 
 use crate::gather::{points_by_value, points_of_rules};
 use event_store::EventStore;
-use ground_types::{Expr, Point, Program, Unit, UnitKind};
+use ground_types::{Expr, Point, Program, Rule, Unit, UnitKind, Value};
 use layer_cache::{Cache, value_count};
 use rt_base::{List, OutOfMemory, Steps};
 use simple_fluent::spans_of;
@@ -39,6 +40,40 @@ fn rows_of_exprs(alloc: Global, exprs: &[Expr], cache: &Cache) -> Result<Vec<Spa
         let row = spans_of_expr(alloc, expr, cache)?;
         rows.push(row)?;
     }
+    Ok(rows)
+}
+
+// The row of each value of a simple fluent.
+fn rows_of_simple<L: Ledger>(
+    alloc: Global,
+    count: usize,
+    initially: Option<Value>,
+    initiate: &[Rule],
+    terminate: &[Rule],
+    cache: &Cache,
+    store: &EventStore,
+    w: Point,
+    q: Point,
+    steps: &mut Steps<L>,
+) -> Result<Vec<Spans>, OutOfMemory>
+    requires simple { IsSimple (HasRows cache.now.rows) count initially initiate.now terminate.now }
+    requires window { w < q }
+    requires end { q < 2 ^ 64 - 1 }
+    ensures rows { IfOk result (λ rows. fluent_rows (map pairs rows.items)
+        ≡ rows_over (known cache.now.rows store.now) initially count
+        (Simple initially initiate.now terminate.now) w q) }
+    ensures steps { OnOk result (steps.new ≡ record {
+      count = steps.old.count + evaluations_over (known cache.now.rows store.now)
+          (Simple initially initiate.now terminate.now) w q;
+      out = steps.old.out;
+    }) }
+    ensures most { OnErr result (steps.new.count ≤ steps.old.count + evaluations_over
+        (known cache.now.rows store.now) (Simple initially initiate.now terminate.now) w q) }
+    ensures parts { steps.new.out ≡ steps.old.out }
+{
+    let inits = points_by_value(alloc, initiate, count, cache, store, w, q, steps)?;
+    let terms = points_by_value(alloc, terminate, count, cache, store, w, q, steps)?;
+    let rows = spans_of(alloc, initially, &inits, &terms, w, q)?;
     Ok(rows)
 }
 
@@ -77,27 +112,10 @@ pub(crate) fn rows_of_unit<L: Ledger>(
             terminate,
         } => {
             let count = value_count(program, unit);
-            let inits = points_by_value(
-                alloc,
-                initiate.as_slice(),
-                count,
-                cache,
-                store,
-                w,
-                q,
-                steps,
+            let (initiate, terminate) = (initiate.as_slice(), terminate.as_slice());
+            let rows = rows_of_simple(
+                alloc, count, *initially, initiate, terminate, cache, store, w, q, steps,
             )?;
-            let terms = points_by_value(
-                alloc,
-                terminate.as_slice(),
-                count,
-                cache,
-                store,
-                w,
-                q,
-                steps,
-            )?;
-            let rows = spans_of(alloc, *initially, &inits, &terms, w, q)?;
             Ok(UnitRows::Fluent(List::of(rows)))
         }
         UnitKind::Derived(rules) => {

@@ -3,28 +3,20 @@ use Rattle.std.proofs.lemmas.List.{get_or_read}
 use Rattle.ground_types.specs.Rows.{points}
 use Rattle.ground_types.specs.Truth.{happens, body_holds}
 use Rattle.point_rule.specs.Known.{known}
-use Rattle.delay_revise.proofs.Gathering.{steps_more, steps_within, steps_done, on_err}
+use Rattle.delay_revise.proofs.Gathering.{steps_more, steps_within, on_err}
 use Rattle.delay_revise.proofs.Joined.{value_below, grown_more}
 use Rattle.delay_revise.proofs.gather.parts_by_value.Goals as goal
 
 below_by : (a b c : ℕ) → a < c → b ≡ c → a < b
 below_by a b c low is = omega arith
 
-pub returns-in_err-points-clause-most : goal.returns-in_err-points-clause-most
-returns-in_err-points-clause-most g c =
+pub returns-in_err-push_rule-clause-most : goal.returns-in_err-push_rule-clause-most
+returns-in_err-push_rule-clause-most g c =
     let table = known c.args.cache.now.rows c.args.store.now in
     on_err _ (steps_within (λ rule. length (points (happens table rule.trigger) c.args.w c.args.q))
     c.args.rules.now c.loop-rule.rule-index c.rule-item.result
-    c.args.steps.now c.loop-rule.steps c.revise_rule.new.steps.count c.loop-rule-test.true
-    c.rule-item.is c.loop-rule.invariant.steps c.in_err-points.ensures.most)
-
-pub returns-in_err-push-clause-most : goal.returns-in_err-push-clause-most
-returns-in_err-push-clause-most g c =
-    let table = known c.args.cache.now.rows c.args.store.now in
-    on_err _ (steps_done (λ rule. length (points (happens table rule.trigger) c.args.w c.args.q))
-    c.args.rules.now c.loop-rule.rule-index c.rule-item.result
-    c.args.steps.now c.loop-rule.steps c.revise_rule.new.steps c.loop-rule-test.true c.rule-item.is
-    c.loop-rule.invariant.steps c.in_ok-points.ensures.steps)
+    c.args.steps.now c.loop-rule.steps c.push_rule.new.steps.count c.loop-rule-test.true
+    c.rule-item.is c.loop-rule.invariant.steps c.in_err-push_rule.ensures.most)
 
 pub loop-rule-preserved : goal.loop-rule-preserved
 loop-rule-preserved g c =
@@ -36,17 +28,17 @@ loop-rule-preserved g c =
     let here : c.index_mut.result.now ≡ get_or c.loop-rule.parts.items c.rule-item.result.value [] =
     get_or_read c.loop-rule.parts.items _ _ low c.index_mut.ensures.value [] in
     record {
-      count = length-set c.loop-rule.parts.items c.rule-item.result.value c.push.new.self
+      count = length-set c.loop-rule.parts.items c.rule-item.result.value c.push_rule.new.self
           ∙ c.loop-rule.invariant.count;
       points = λ v t. grown_more (λ rule. points (body_holds table rule) c.args.w c.args.q)
           c.args.rules.now c.loop-rule.rule-index c.rule-item.result
           c.loop-rule.parts.items (set c.loop-rule.parts.items c.rule-item.result.value
-          c.push.new.self) c.index_mut.result.now c.push.new.self
-          c.in_ok-points.points v t c.loop-rule-test.true c.rule-item.is low here
-          c.in_ok-points.ensures.found (c.in_ok-push.ensures t) refl
+          c.push_rule.new.self) c.index_mut.result.now c.push_rule.new.self
+          v t c.loop-rule-test.true c.rule-item.is low here
+          (c.in_ok-push_rule.ensures.points t) refl
           (c.loop-rule.invariant.points v t);
       steps = steps_more (λ rule. length (points (happens table rule.trigger) c.args.w c.args.q))
           c.args.rules.now c.loop-rule.rule-index c.rule-item.result
           c.args.steps.now c.loop-rule.steps _ c.loop-rule-test.true c.rule-item.is
-          c.loop-rule.invariant.steps c.in_ok-points.ensures.steps;
+          c.loop-rule.invariant.steps c.in_ok-push_rule.ensures.steps;
     }
