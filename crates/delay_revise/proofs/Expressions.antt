@@ -22,7 +22,7 @@ use Rattle.point_rule.specs.Known.{known}
 use Rattle.span_algebra.specs.declared.rows.UnitRows.{UnitRows}
 use Rattle.delay_revise.specs.Published.{Stand}
 use Rattle.delay_revise.specs.Worked.{IsWorked}
-use Rattle.delay_revise.proofs.LookUp.{value_found}
+use Rattle.delay_revise.proofs.LookUp.{value_found, rows_worked, occurs_of}
 
 -- input events do not matter to expressions
 module _ (rows : List UnitRows) (store : Events) (t : ℕ) where
@@ -68,7 +68,8 @@ module _ (program : Program) (history : List Entry) (store : Events) (below : Li
         → list_all (contains below) (units_of_expr expr) ≡ true →
         expr_holds (known rows store) expr t ≡ expr_holds (query_table program history 0) expr t
     expr_found (Row unit v) fits done =
-        value_found program history store below rows sound stand worked unit v t fits
+        value_found program history 0 (occurs_of store) below rows sound stand
+        (rows_worked program history store below rows stand worked) unit v t fits
         (and_parts (contains below unit) true done).0 above within
     expr_found (Union' shape members) fits done = some_found members fits done
     expr_found (Intersect' shape members) fits done =

@@ -35,7 +35,7 @@ use Rattle.delay_revise.specs.Worked.{IsWorked, first_rows}
 use Rattle.delay_revise.specs.Working.{rows_over}
 use Rattle.delay_revise.proofs.Alike.{row_alike, points_alike, value_alike}
 use Rattle.delay_revise.proofs.Expressions.{option_found}
-use Rattle.delay_revise.proofs.LookUp.{table_means, body_found}
+use Rattle.delay_revise.proofs.LookUp.{table_means, body_found, rows_worked, occurs_of}
 
 -- what passes for two lists together passes for each
 pub all_left : {X : Type 0} (test : X → Bool) (xs ys : List X) → list_all test (xs ++ ys) ≡ true
@@ -84,7 +84,8 @@ module _ (program : Program) (history : List Entry) (store : Events) (below : Li
       → left program.plan 0 < t → t ≤ right program.plan 0 →
       body_holds (known rows store) rule t ≡ body_holds (query_table program history 0) rule t
   first_found count rule rest t fit done above within =
-      body_found program history store below rows sound stand worked count rule t
+      body_found program history 0 (occurs_of store) below rows sound stand
+      (rows_worked program history store below rows stand worked) count rule t
       (and_parts (rule_fits program count rule) (list_all (rule_fits program count) rest) fit).0
       (all_left (contains below) (units_of_rule rule) (flat_map units_of_rule rest) done) above
       within
@@ -140,7 +141,7 @@ module _ (program : Program) (history : List Entry) (store : Events) (below : Li
       let w = left program.plan 0 in
       let q = right program.plan 0 in
       let table : Table = query_table program history 0 in
-      let means = table_means program history sound in
+      let means = table_means program history 0 sound in
       let at : table.value number t ≡ value_of_unit table initially (Simple initially initiate
       terminate) w t =
       means.simple_fluents number t ∙ ap₂ (λ (o : Option ℕ) (k : UnitKind). value_of_unit table o k
@@ -172,7 +173,7 @@ module _ (program : Program) (history : List Entry) (store : Events) (below : Li
   derived_found number t rules kind fit done above within =
       let table : Table = query_table program history 0 in
       some_found 1 rules t fit done above within
-      ∙ sym ((table_means program history sound).derived_events number t
+      ∙ sym ((table_means program history 0 sound).derived_events number t
       ∙ ap (λ (k : UnitKind). derived_of_unit table k t) kind)
 
   -- a value of a statically determined fluent holds over the rows where it does in query 0
@@ -185,7 +186,7 @@ module _ (program : Program) (history : List Entry) (store : Events) (below : Li
   static_found number count v t exprs kind fits done above within =
       let w = left program.plan 0 in
       let table : Table = query_table program history 0 in
-      let means = table_means program history sound in
+      let means = table_means program history 0 sound in
       let none : table.value number t ≡ None =
       means.simple_fluents number t ∙ ap (λ (k : UnitKind). value_of_unit table
       (listed (opening_of program history 0) number) k w t) kind in

@@ -1,4 +1,4 @@
--- What is looked up in the rows of units that are worked is what is true in query 0.
+-- What is looked up in the rows of units that are those of a query is what is true in it.
 use Rattle.std.proofs.Common.{◌≡◌, ℕ, ◌+◌, ◌-◌, ◌<◌, ◌≤◌, Bool, true, false, not, cond, ◌&&◌, ◌||◌}
 use Rattle.std.proofs.Common.{leb, ltb, nat_lt, List, [], ◌∷◌, map, flat_map, length, slice_get}
 use Rattle.std.proofs.Common.{Option, Some, None, refl, sym, ◌∙◌, ap, ap₂, arith}
@@ -33,31 +33,31 @@ use Rattle.ground_types.specs.declared.program.Unit.{Unit}
 use Rattle.ground_types.specs.declared.program.UnitKind.{UnitKind}
 use Rattle.ground_types.specs.declared.program.UnitKind.TheVariants.{Simple, Static, Derived}
 use Rattle.ground_types.specs.declared.program.Program.{Program}
-use Rattle.event_store.specs.Standing.{Events}
+use Rattle.event_store.specs.Standing.{Events, standing}
 use Rattle.layer_cache.specs.Told.{event_has, value_covers, fluent_has}
-use Rattle.point_rule.specs.Known.{known}
+use Rattle.point_rule.specs.Known.{with_events}
 use Rattle.simple_fluent.specs.Rows.{pairs}
-use Rattle.span_algebra.specs.Normal.{covers as has_span}
+use Rattle.span_algebra.specs.Normal.{has, covers as has_span}
 use Rattle.span_algebra.specs.declared.spans.Span.{Span}
 use Rattle.span_algebra.specs.declared.rows.UnitRows.{UnitRows}
 use Rattle.span_algebra.specs.declared.rows.UnitRows.TheVariants.{Fluent, Event}
-use Rattle.delay_revise.specs.Published.{published, Stand}
+use Rattle.delay_revise.specs.Published.{published, Stand, OccurIn}
 use Rattle.delay_revise.specs.Worked.{IsWorked}
 use Rattle.delay_revise.proofs.Occurs.{inside_is, occurs_there}
 
--- where the input events of query 0 occur
-abbrev occurs_in : Program → List Entry → ℕ → ℕ → Bool
-occurs_in program history event t =
-    ltb (left program.plan 0) t && leb t (right program.plan 0)
-    && is_among (events_of_query program history 0) event t
+-- where the input events of query k occur
+abbrev occurs_in : Program → List Entry → ℕ → ℕ → ℕ → Bool
+occurs_in program history k event t =
+    ltb (left program.plan k) t && leb t (right program.plan k)
+    && is_among (events_of_query program history k) event t
 
--- everything in the table of query 0 is as the definitions say
-pub table_means : (program : Program) (history : List Entry) → IsSound program →
-    IsMeaning program (listed (opening_of program history 0)) (occurs_in program history)
-    (left program.plan 0) (query_table program history 0)
-table_means program history sound =
-    layers_are_meaning program (listed (opening_of program history 0)) (occurs_in program history)
-    (left program.plan 0) sound.layers
+-- everything in the table of query k is as the definitions say
+pub table_means : (program : Program) (history : List Entry) (k : ℕ) → IsSound program →
+    IsMeaning program (listed (opening_of program history k)) (occurs_in program history k)
+    (left program.plan k) (query_table program history k)
+table_means program history k sound =
+    layers_are_meaning program (listed (opening_of program history k))
+    (occurs_in program history k) (left program.plan k) sound.layers
 
 -- the spans as pairs have the same points
 pub covers_pairs : (row : List Span) (t : ℕ) → has_span row t ≡ covers (pairs row) t
@@ -139,47 +139,68 @@ contains_inside : (test : ℕ → Bool) (w q t : ℕ) → w < t → t ≤ q → 
 contains_inside test w q t above within =
     (points_are test w q (omega arith)).each t ∙ inside_is w q t (test t) above within
 
-module _ (program : Program) (history : List Entry) (store : Events) (below : List ℕ)
-    (rows : List UnitRows)
-    (sound : IsSound program) (stand : Stand program store (before_seal history 0))
-    (worked : IsWorked program store below rows) where
+-- the rows of these units are those of query k, by the kind of each
+abbrev pub HaveRows : Program → List Entry → ℕ → List ℕ → List UnitRows → Type 0
+HaveRows program history k units rows =
+    (number : ℕ) (unit : Unit) → slice_get program.units number ≡ Some unit
+    → contains units number ≡ true →
+    option_map published (slice_get rows number)
+    ≡ Some (rows_of_kind (query_table program history k) number (unit_values program unit)
+    unit.kind (left program.plan k) (right program.plan k))
+
+-- units that are worked have the rows of query 0
+pub rows_worked : (program : Program) (history : List Entry) (store : Events) (below : List ℕ)
+    (rows : List UnitRows) → Stand program store (before_seal history 0)
+    → IsWorked program store below rows → HaveRows program history 0 below rows
+rows_worked program history store below rows stand worked =
+    λ number unit at done. worked.each number unit at done history stand
+
+-- the input events of a store
+abbrev pub occurs_of : Events → ℕ → ℕ → Bool
+occurs_of store event t = has (standing store event) t
+
+module _ (program : Program) (history : List Entry) (k : ℕ) (occurs : ℕ → ℕ → Bool)
+    (below : List ℕ) (rows : List UnitRows)
+    (sound : IsSound program) (events : OccurIn program history k occurs)
+    (have : HaveRows program history k below rows) where
   value_by : (number v t : ℕ) (unit : Option Unit) → slice_get program.units number ≡ unit
       → is_fluent_value program unit v ≡ true →
-      contains below number ≡ true → left program.plan 0 < t → t ≤ right program.plan 0 + 1 →
-      fluent_has (slice_get rows number) v t ≡ holds (query_table program history 0) number v t
+      contains below number ≡ true → left program.plan k < t → t ≤ right program.plan k + 1 →
+      fluent_has (slice_get rows number) v t ≡ holds (query_table program history k) number v t
   value_by number v t None at fits done above within = cc
   value_by number v t (Some unit) at fits done above within =
-      let table = query_table program history 0 in
-      let w = left program.plan 0 in
-      let q = right program.plan 0 in
+      let table = query_table program history k in
+      let w = left program.plan k in
+      let q = right program.plan k in
       let few : nat_lt v (unit_values program unit) ≡ true =
       (and_parts (is_fluent unit.kind) (nat_lt v (unit_values program unit)) fits).1 in
       fluent_has_row table number (unit_values program unit) unit.kind w q v t
       (slice_get rows number)
       (and_parts (is_fluent unit.kind) (nat_lt v (unit_values program unit)) fits).0
       (grind (arith, nat_tests))
-      (worked.each number unit at done history stand)
+      (have number unit at done)
       ∙ covers_inside (holds table number v) w q t above within
 
   -- a fluent-value holds at a value point where its row has it
   pub value_found : (number v t : ℕ) → is_fluent_value program (slice_get program.units number) v
       ≡ true → contains below number ≡ true →
-      left program.plan 0 < t → t ≤ right program.plan 0 + 1 → holds (known rows store) number v t
-      ≡ holds (query_table program history 0) number v t
+      left program.plan k < t → t ≤ right program.plan k + 1 → holds (with_events rows occurs)
+      number v t
+      ≡ holds (query_table program history k) number v t
   value_found number v t fits done above within =
       value_by number v t (slice_get program.units number) refl fits done above within
 
   event_by : (number t : ℕ) (unit : Option Unit) → slice_get program.units number ≡ unit
       → is_derived_event unit ≡ true →
-      contains below number ≡ true → left program.plan 0 < t → t ≤ right program.plan 0 →
-      event_has (slice_get rows number) t ≡ (query_table program history 0).derived number t
+      contains below number ≡ true → left program.plan k < t → t ≤ right program.plan k →
+      event_has (slice_get rows number) t ≡ (query_table program history k).derived number t
   event_by number t None at fits done above within = cc
   event_by number t (Some unit) at fits done above within =
-      let table = query_table program history 0 in
-      let w = left program.plan 0 in
-      let q = right program.plan 0 in
+      let table = query_table program history k in
+      let w = left program.plan k in
+      let q = right program.plan k in
       event_has_row table number (unit_values program unit) unit.kind w q t (slice_get rows number)
-      fits (worked.each number unit at done history stand)
+      fits (have number unit at done)
       ∙ contains_inside (table.derived number) w q t above within
 
   first_done : (number : ℕ) (rest : List ℕ) → list_all (contains below) (number ∷ rest) ≡ true
@@ -190,12 +211,13 @@ module _ (program : Program) (history : List Entry) (store : Events) (below : Li
   -- a trigger happens at an event point where it does so over the rows
   pub trigger_found : (trigger : Trigger) (t : ℕ) → trigger_fits program trigger ≡ true
       → list_all (contains below) (units_of_trigger trigger) ≡ true →
-      left program.plan 0 < t → t ≤ right program.plan 0 → happens (known rows store) trigger t
-      ≡ happens (query_table program history 0) trigger t
+      left program.plan k < t → t ≤ right program.plan k → happens (with_events rows occurs)
+      trigger t
+      ≡ happens (query_table program history k) trigger t
   trigger_found (trigger.Event event) t fits done above within =
       let few : event < program.events = grind (arith, nat_tests) in
-      sym ((table_means program history sound).input_events event t ∙ occurs_there program history
-      store event t stand few above within)
+      sym ((table_means program history k sound).input_events event t
+      ∙ occurs_there program history k occurs event t events few above within)
   trigger_found (trigger.Derived unit) t fits done above within =
       event_by unit t (slice_get program.units unit) refl fits (first_done unit [] done) above
       within
@@ -210,27 +232,35 @@ module _ (program : Program) (history : List Entry) (store : Events) (below : Li
 
   what_found : (what : What) (t : ℕ) → what_fits program what ≡ true
       → list_all (contains below) (units_of_what what) ≡ true →
-      left program.plan 0 < t → t ≤ right program.plan 0 → is_so (known rows store) what t
-      ≡ is_so (query_table program history 0) what t
+      left program.plan k < t → t ≤ right program.plan k → is_so (with_events rows occurs) what t
+      ≡ is_so (query_table program history k) what t
   what_found (Happens trigger) t fits done above within = trigger_found trigger t fits done above
       within
   what_found (Holds unit v) t fits done above within = value_found unit v t fits
       (first_done unit [] done) above (omega arith)
 
+  pub condition_found : (c : Cond) (t : ℕ) → what_fits program c.what ≡ true
+      → list_all (contains below) (units_of_what c.what) ≡ true →
+      left program.plan k < t → t ≤ right program.plan k
+      → condition_holds (with_events rows occurs) c t
+      ≡ condition_holds (query_table program history k) c t
+  condition_found c t fits done above within = ap (λ (b : Bool). cond c.positive b (not b))
+      (what_found c.what t fits done above within)
+
   conditions_found : (conds : List Cond) (t : ℕ) → list_all (λ cond. what_fits program cond.what)
       conds ≡ true →
       list_all (contains below) (flat_map (λ cond. units_of_what cond.what) conds) ≡ true
-      → left program.plan 0 < t → t ≤ right program.plan 0 →
-      list_all (λ cond. condition_holds (known rows store) cond t) conds
-      ≡ list_all (λ cond. condition_holds (query_table program history 0) cond t) conds
+      → left program.plan k < t → t ≤ right program.plan k →
+      list_all (λ cond. condition_holds (with_events rows occurs) cond t) conds
+      ≡ list_all (λ cond. condition_holds (query_table program history k) cond t) conds
   conditions_found [] t fit done above within = refl
   conditions_found (c ∷ rest) t fit done above within =
       let more : List ℕ = flat_map (λ cond. units_of_what cond.what) rest in
       let all : (list_all (contains below) (units_of_what c.what) && list_all (contains below)
       more) ≡ true =
       sym (list_all-append (contains below) (units_of_what c.what) more) ∙ done in
-      ap₂ (λ (a b : Bool). cond c.positive a (not a) && b)
-      (what_found c.what t (and_parts (what_fits program c.what)
+      ap₂ (λ (a b : Bool). a && b)
+      (condition_found c t (and_parts (what_fits program c.what)
       (list_all (λ cond. what_fits program cond.what) rest) fit).0
       (and_parts (list_all (contains below) (units_of_what c.what)) (list_all (contains below)
       more) all).0 above within)
@@ -242,8 +272,9 @@ module _ (program : Program) (history : List Entry) (store : Events) (below : Li
   -- a body is true at an event point where it is so over the rows
   pub body_found : (values : ℕ) (rule : Rule) (t : ℕ) → rule_fits program values rule ≡ true
       → list_all (contains below) (units_of_rule rule) ≡ true →
-      left program.plan 0 < t → t ≤ right program.plan 0 → body_holds (known rows store) rule t
-      ≡ body_holds (query_table program history 0) rule t
+      left program.plan k < t → t ≤ right program.plan k → body_holds (with_events rows occurs)
+      rule t
+      ≡ body_holds (query_table program history k) rule t
   body_found values rule t fits done above within =
       let triggers : Bool = trigger_fits program rule.trigger in
       let others : Bool = list_all (λ cond. what_fits program cond.what) rule.conds in

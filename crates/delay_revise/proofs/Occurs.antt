@@ -1,4 +1,4 @@
--- Where the input events of query 0 occur.
+-- Where the input events of a query occur.
 use Rattle.std.proofs.Common.{◌≡◌, ℕ, zero, suc, ◌+◌, ◌<◌, ◌≤◌, Bool, true, false, ◌&&◌, ◌||◌, leb}
 use Rattle.std.proofs.Common.{ltb, eqb, List, [], ◌∷◌, map, sym, ◌∙◌, ap, ap₂, arith}
 use Rattle.std.specs.List.{flat_map, range_with_len}
@@ -14,9 +14,7 @@ use Rattle.ground_types.specs.Windows.{left, right}
 use Rattle.ground_types.proofs.Points.{points_are}
 use Rattle.ground_types.specs.declared.entries.Entry.{Entry}
 use Rattle.ground_types.specs.declared.program.Program.{Program}
-use Rattle.span_algebra.specs.Normal.{has}
-use Rattle.event_store.specs.Standing.{Events, standing}
-use Rattle.delay_revise.specs.Published.{Stand}
+use Rattle.delay_revise.specs.Published.{OccurIn}
 
 among_one : (event other t : ℕ) (xs : List ℕ)
     → is_among (map (λ t. record { event = other; at = t }) xs) event t
@@ -61,34 +59,34 @@ inside_once w q t e events false lt = grind (arith, nat_tests)
 pub inside_is : (w q t : ℕ) (b : Bool) → w < t → t ≤ q → (ltb w t && leb t q && b) ≡ b
 inside_is w q t b above within = grind (arith, nat_tests)
 
--- an input event of the program occurs in query 0 at the points of the window at which it stands
-pub occurs_where : (program : Program) (history : List Entry) (event t : ℕ)
+-- an input event of the program occurs in query k at the points of the window at which it stands
+pub occurs_where : (program : Program) (history : List Entry) (k event t : ℕ)
     → event < program.events →
-    (ltb (left program.plan 0) t && leb t (right program.plan 0)
-    && is_among (events_of_query program history 0) event t)
-    ≡ (ltb (left program.plan 0) t && leb t (right program.plan 0)
-    && stands (before_seal history 0) event t)
-occurs_where program history event t within =
-    let w = left program.plan 0 in
-    let q = right program.plan 0 in
+    (ltb (left program.plan k) t && leb t (right program.plan k)
+    && is_among (events_of_query program history k) event t)
+    ≡ (ltb (left program.plan k) t && leb t (right program.plan k)
+    && stands (before_seal history k) event t)
+occurs_where program history k event t within =
+    let w = left program.plan k in
+    let q = right program.plan k in
     let le : w ≤ q = omega arith in
-    let here : ℕ → List ℕ = λ e. points (stands (before_seal history 0) e) w q in
-    let each : contains (here event) t ≡ (ltb w t && leb t q && stands (before_seal history 0)
+    let here : ℕ → List ℕ = λ e. points (stands (before_seal history k) e) w q in
+    let each : contains (here event) t ≡ (ltb w t && leb t q && stands (before_seal history k)
     event t) =
-    (points_are (stands (before_seal history 0) event) w q le).each t in
+    (points_are (stands (before_seal history k) event) w q le).each t in
     ap (λ (b : Bool). ltb w t && leb t q && b)
     (among_all here 0 program.events event t
     ∙ ap (λ (b : Bool). leb 0 event && ltb event (0 + program.events) && b) each)
-    ∙ inside_once w q t event program.events (stands (before_seal history 0) event t) within
+    ∙ inside_once w q t event program.events (stands (before_seal history k) event t) within
 
--- so at a point of the window it occurs where the store has it
-pub occurs_there : (program : Program) (history : List Entry) (store : Events) (event t : ℕ)
-    → Stand program store (before_seal history 0) →
-    event < program.events → left program.plan 0 < t → t ≤ right program.plan 0 →
-    (ltb (left program.plan 0) t && leb t (right program.plan 0)
-    && is_among (events_of_query program history 0) event t) ≡ has (standing store event) t
-occurs_there program history store event t stand known above within =
-    occurs_where program history event t known
-    ∙ inside_is (left program.plan 0) (right program.plan 0) t (stands (before_seal history 0)
+-- so at a point of the window it occurs where it is known to
+pub occurs_there : (program : Program) (history : List Entry) (k : ℕ) (occurs : ℕ → ℕ → Bool)
+    (event t : ℕ) → OccurIn program history k occurs → event < program.events
+    → left program.plan k < t → t ≤ right program.plan k →
+    (ltb (left program.plan k) t && leb t (right program.plan k)
+    && is_among (events_of_query program history k) event t) ≡ occurs event t
+occurs_there program history k occurs event t events known above within =
+    occurs_where program history k event t known
+    ∙ inside_is (left program.plan k) (right program.plan k) t (stands (before_seal history k)
     event t) above within
-    ∙ sym (stand event t known above within)
+    ∙ sym (events event t known above within)

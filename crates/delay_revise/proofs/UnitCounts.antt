@@ -36,7 +36,7 @@ use Rattle.delay_revise.specs.Worked.{IsWorked}
 use Rattle.delay_revise.specs.Working.{evaluations_of, evaluations_over}
 use Rattle.delay_revise.proofs.Alike.{points_alike}
 use Rattle.delay_revise.proofs.KindRows.{DoesFit, fits_simple, all_left, all_right}
-use Rattle.delay_revise.proofs.LookUp.{trigger_found}
+use Rattle.delay_revise.proofs.LookUp.{trigger_found, rows_worked, occurs_of}
 
 -- a window has as many points as it is long
 pub points_few : (test : ℕ → Bool) (w q : ℕ) → length (points test w q) ≤ q - w
@@ -107,7 +107,8 @@ module _ (program : Program) (history : List Entry) (store : Events) (below : Li
       let table : Table = query_table program history 0 in
       points_alike (happens (known rows store) rule.trigger) (λ t. happens table rule.trigger t
       && true) (left program.plan 0) (right program.plan 0)
-      (λ t above within. trigger_found program history store below rows sound stand worked
+      (λ t above within. trigger_found program history 0 (occurs_of store) below rows sound stand
+      (rows_worked program history store below rows stand worked)
       rule.trigger t
       (fits_trigger program count rule fits)
       (all_left (contains below) (units_of_trigger rule.trigger)

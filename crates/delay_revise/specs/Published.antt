@@ -1,8 +1,10 @@
 -- Public contracts speak by this: what is computed, against what is published of a history.
-use Rattle.std.specs.Prelude.{◌≡◌, ◌<◌, ◌≤◌, ℕ, List, map}
-use Rattle.ground_types.specs.History.{stands}
+use Rattle.std.specs.Prelude.{◌≡◌, ◌<◌, ◌≤◌, ℕ, Bool, true, List, map, length, slice_get}
+use Rattle.std.specs.Prelude.{option_map}
+use Rattle.ground_types.specs.History.{stands, before_seal}
+use Rattle.ground_types.specs.Members.{contains}
 use Rattle.ground_types.specs.Windows.{left, right}
-use Rattle.ground_types.specs.Publication.{PublishedRows, fluent_rows, event_row}
+use Rattle.ground_types.specs.Publication.{PublishedRows, fluent_rows, event_row, publication}
 use Rattle.ground_types.specs.declared.entries.Entry.{Entry}
 use Rattle.ground_types.specs.declared.program.Program.{Program}
 use Rattle.span_algebra.specs.Normal.{has}
@@ -22,3 +24,16 @@ abbrev pub Stand : Program → Events → List Entry → Type 0
 Stand program store history =
     (event t : ℕ) → event < program.events → left program.plan 0 < t → t ≤ right program.plan 0 →
     has (standing store event) t ≡ stands history event t
+
+-- these events occur at the points of the window of query k where they stand at its seal
+abbrev pub OccurIn : Program → List Entry → ℕ → (ℕ → ℕ → Bool) → Type 0
+OccurIn program history k occurs =
+    (event t : ℕ) → event < program.events → left program.plan k < t → t ≤ right program.plan k →
+    occurs event t ≡ stands (before_seal history k) event t
+
+-- these units have the rows that are published of query k
+abbrev pub HaveRowsOf : Program → List Entry → ℕ → List ℕ → List UnitRows → Type 0
+HaveRowsOf program history k units rows =
+    (number : ℕ) → number < length program.units → contains units number ≡ true →
+    option_map published (slice_get rows number) ≡ slice_get (publication program history k).rows
+    number

@@ -1,5 +1,5 @@
--- For private functions alone: what a unit comes to over a table of what its rules name, and what is
--- known of a unit and of rows while they are computed.
+-- For private functions alone: what a unit comes to over a table of what its rules name, and what
+-- is known of a unit and of rows while they are computed.
 use Rattle.std.specs.Prelude.{◌≡◌, ◌<◌, ◌≤◌, ℕ, ◌+◌, Bool, true, false, List, map, length}
 use Rattle.std.specs.Prelude.{slice_get, sum_by, nat_lt, Option}
 use Rattle.std.specs.List.{range_with_len, list_all, AllByRecursion}

@@ -18,7 +18,8 @@ pub returns-in_ok-rows-in-Simple-clause-rows : goal.returns-in_ok-rows-in-Simple
 returns-in_ok-rows-in-Simple-clause-rows g c =
     let table = known c.args.cache.now.rows c.args.store.now in
     ap (λ (made : List (List Span)). fluent_rows (map pairs made)) c.of.ensures
-    ∙ (rw (c.as_slice-initiate.ensures, c.as_slice-terminate.ensures) at c.in_ok-rows-in-Simple.ensures.rows)
+    ∙ (rw (c.as_slice-initiate.ensures, c.as_slice-terminate.ensures) at
+    c.in_ok-rows-in-Simple.ensures.rows)
     ∙ fluent_rows_are table c.args.unit.now.kind c.in-Simple.initially c.in-Simple.initiate
     c.in-Simple.terminate _ c.value_count-count.result c.args.w c.args.q
     c.in-Simple.is c.value_count-count.ensures
