@@ -12,6 +12,7 @@ pub mod LookUp
 pub mod Occurs
 pub mod Putting
 pub mod Stepping
+pub mod Touching
 pub mod UnitCounts
 pub mod UnitRows
 pub mod WorkedUnits

@@ -7,6 +7,8 @@
 
 mod first;
 mod gather;
+mod laws;
 mod work;
 
 pub use first::{Recognised, recognise_first};
+pub use laws::touched_law;
