@@ -75,7 +75,7 @@ fn empty(alloc: Global) -> Result<Cache, Fail>
 }
 
 // The rows of a fluent, one span for each of its values.
-fn rows(alloc: Global, spans: &[Span]) -> Result<UnitRows, Fail> {
+fn fluent_rows(alloc: Global, spans: &[Span]) -> Result<UnitRows, Fail> {
     let mut rows = Vec::new(alloc);
     for span in spans {
         rows.push(Spans::from_list(alloc, &[*span])?)?;
@@ -93,8 +93,8 @@ fn cache(alloc: Global) -> Result<Cache, Fail>
     ensures { IfOk result (λ cache. length cache.rows ≡ 3) }
 {
     let mut cache = empty(alloc)?;
-    cache.put_row(0, rows(alloc, &[span(2, 11), span(11, 13)])?);
-    cache.put_row(1, rows(alloc, &[span(4, 6)])?);
+    cache.put_row(0, fluent_rows(alloc, &[span(2, 11), span(11, 13)])?);
+    cache.put_row(1, fluent_rows(alloc, &[span(4, 6)])?);
     cache.put_row(2, UnitRows::Event(Points::from_list(alloc, &[5])?));
     Ok(cache)
 }
@@ -156,7 +156,7 @@ fn union(members: Vec<Expr>) -> Expr
 }
 
 // An expression that is an intersection.
-fn shared(members: Vec<Expr>) -> Expr
+fn intersection(members: Vec<Expr>) -> Expr
     requires some { 0 < length members.items }
     requires rows { list_all (has_rows 3) members.items ≡ true }
     requires members { list_all has_members members.items ≡ true }
@@ -167,7 +167,7 @@ fn shared(members: Vec<Expr>) -> Expr
 }
 
 // An expression that is a complement.
-fn left_over(alloc: Global, first: Expr, others: Vec<Expr>) -> Result<Expr, Fail>
+fn complement(alloc: Global, first: Expr, others: Vec<Expr>) -> Result<Expr, Fail>
     requires first_rows { has_rows 3 first ≡ true }
     requires first_members { has_members first ≡ true }
     requires rows { list_all (has_rows 3) others.items ≡ true }
@@ -186,8 +186,8 @@ fn written(alloc: Global, form: Form<'_>) -> Result<Expr, Fail>
     match form {
         Form::Row(leaf) => Ok(row(leaf)),
         Form::Union(list) => Ok(union(leaves(alloc, list)?)),
-        Form::Both(one, other) => Ok(shared(vec![in alloc; row(one), row(other)]?)),
-        Form::Without(first, others) => left_over(alloc, row(first), leaves(alloc, others)?),
+        Form::Both(one, other) => Ok(intersection(vec![in alloc; row(one), row(other)]?)),
+        Form::Without(first, others) => complement(alloc, row(first), leaves(alloc, others)?),
     }
 }
 
@@ -199,7 +199,7 @@ fn nested(alloc: Global) -> Result<Expr, Fail>
     let cold = written(alloc, Form::Without(Leaf::Low, &[Leaf::Heat]))?;
     let warm = written(alloc, Form::Both(Leaf::Low, Leaf::Heat))?;
     let first = union(vec![in alloc; row(Leaf::High), cold]?);
-    left_over(alloc, first, vec![in alloc; warm, row(Leaf::Alarm)]?)
+    complement(alloc, first, vec![in alloc; warm, row(Leaf::Alarm)]?)
 }
 
 // The borders of the spans of an expression over three rows.

@@ -2,7 +2,7 @@ use Rattle.std.proofs.Common.{nat_lt, ap, ◌∙◌}
 use Rattle.std.specs.Cmp.Derive.{both_true}
 use Rattle.static_fluent.specs.Constructs.{has_members, has_rows}
 use Rattle.static_fluent.proofs.Members.{complement_units, complement_members}
-use Rattle.static_fluent.proofs.tests.left_over.Goals as goal
+use Rattle.static_fluent.proofs.tests.complement.Goals as goal
 
 pub returns-clause-rows : goal.returns-clause-rows
 returns-clause-rows c =
