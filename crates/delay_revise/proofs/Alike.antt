@@ -60,19 +60,19 @@ least_in v (x ∷ xs) =
     least_in_by v x (fold min (min v x) xs) (contains xs (fold min (min v x) xs))
     (least_in (min v x) xs)
 
-below_by : (v x u m : ℕ) (c : Bool) → m ≤ min v x → (c ≡ true → m ≤ u)
+least_by : (v x u m : ℕ) (c : Bool) → m ≤ min v x → (c ≡ true → m ≤ u)
     → (eqb v u || (eqb x u || c)) ≡ true → m ≤ u
-below_by v x u m true low go is = go refl
-below_by v x u m false low go is = grind (arith, nat_tests)
+least_by v x u m true low go is = go refl
+least_by v x u m false low go is = grind (arith, nat_tests)
 
 later : (v u : ℕ) (xs : List ℕ) → contains xs u ≡ true → contains (v ∷ xs) u ≡ true
 later v u xs is = rw is (or-true (eqb v u))
 
 least_below : (v : ℕ) (vs : List ℕ) (u : ℕ) → contains (v ∷ vs) u ≡ true → fold min v vs ≤ u
-least_below v [] u is = below_by v v u v false (omega arith) (λ no. absurd (false≢true no))
+least_below v [] u is = least_by v v u v false (omega arith) (λ no. absurd (false≢true no))
     (later v u (v ∷ []) is)
 least_below v (x ∷ xs) u is =
-    below_by v x u (fold min (min v x) xs) (contains xs u) (least_low (min v x) xs)
+    least_by v x u (fold min (min v x) xs) (contains xs u) (least_low (min v x) xs)
     (λ rest. least_below (min v x) xs u (later (min v x) u xs rest)) is
 
 least_alike : (x y : ℕ) (xs ys : List ℕ) → ((v : ℕ) → contains (x ∷ xs) v ≡ contains (y ∷ ys) v)

@@ -6,13 +6,13 @@ use Rattle.std.specs.List.{list_all, range_with_len}
 use Rattle.std.proofs.lemmas.Bool.Decides.{nat_tests}
 use Rattle.std.proofs.lemmas.List.{map-append, map_more}
 use Rattle.std.proofs.lemmas.List.Folds.{list_all-append}
+use Rattle.std.proofs.lemmas.Bool.{and_parts, eqb-true}
 use Rattle.ground_types.specs.Meaning.{units_of_expr, units_of_members}
 use Rattle.ground_types.specs.Publication.{fluent_rows, initial_of}
 use Rattle.ground_types.specs.Recognition.{static_of_unit, option_holds}
 use Rattle.ground_types.specs.Rows.{row, covers, IsRisingFrom, IsRowByPoints}
 use Rattle.ground_types.specs.Sound.{member_count, expr_fits, members_fit, is_union, kind_fits}
 use Rattle.ground_types.specs.Truth.{expr_holds}
-use Rattle.std.proofs.lemmas.Bool.{and_parts, eqb-true}
 use Rattle.ground_types.proofs.Rows.{covers_hit, row_from_points}
 use Rattle.ground_types.specs.declared.program.Expr.{Expr, Row, Union', Intersect', Complement'}
 use Rattle.ground_types.specs.declared.program.Expr.{Row_of-Expr, end_of-Expr, more_of-Expr}
@@ -31,6 +31,7 @@ use Rattle.static_fluent.proofs.Inside.{expr_inside}
 use Rattle.delay_revise.specs.Working.{rows_over, IsInWindow}
 use Rattle.delay_revise.proofs.Alike.{row_alike}
 use Rattle.delay_revise.proofs.Expressions.{expr_told}
+use Rattle.delay_revise.proofs.LayerParts.{all_more}
 use Rattle.delay_revise.proofs.LookUp.{covers_pairs}
 use Rattle.delay_revise.proofs.Putting.{fluent_known}
 
@@ -87,14 +88,6 @@ module _ (program : Program) where
         (members_fit program rest) fits).0)
         (members_named rest (and_parts (expr_fits program member) (members_fit program rest)
         fits).1)
-
-all_more : (one two : Expr → Bool) (exprs : List Expr) → ((expr : Expr) → one expr ≡ true
-    → two expr ≡ true) → list_all one exprs ≡ true →
-    list_all two exprs ≡ true
-all_more one two [] more all = refl
-all_more one two (expr ∷ rest) more all =
-    ap₂ (λ (a b : Bool). a && b) (more expr (and_parts (one expr) (list_all one rest) all).0)
-    (all_more one two rest more (and_parts (one expr) (list_all one rest) all).1)
 
 -- what is known of a statically determined fluent whose expressions fit
 pub record IsStatic (count values : ℕ) (exprs : List Expr) : Type 0 where

@@ -1,11 +1,11 @@
 -- A unit that opens with nothing, and none of whose rules has to be looked at, has no rows.
 use Rattle.std.proofs.Common.{◌≡◌, ℕ, zero, suc, ◌+◌, ◌-◌, ◌<◌, ◌≤◌, Bool, true, false, true≢false}
-use Rattle.std.proofs.Common.{cond, ◌&&◌, ◌||◌, ltb, leb, List, [], ◌∷◌, ◌++◌, map, filter, length}
+use Rattle.std.proofs.Common.{cond, ◌&&◌, ◌||◌, List, [], ◌∷◌, ◌++◌, map, filter, length}
 use Rattle.std.proofs.Common.{Option, Some, None, refl, sym, ◌∙◌, ap, ap₂, arith}
 use Rattle.std.specs.Prelude.{replicate}
 use Rattle.std.specs.List.{list_any, range_with_len}
-use Rattle.std.proofs.lemmas.Bool.Decides.{nat_tests}
 use Rattle.std.proofs.lemmas.List.Sums.{sum_by-cons, sum_by-append}
+use Rattle.std.proofs.lemmas.List.{nil_from_length}
 use Rattle.ground_types.specs.Truth.{Table, happens, body_holds, is_value}
 use Rattle.ground_types.specs.Members.{contains}
 use Rattle.ground_types.specs.Inertia.{next_value, value_after}
@@ -21,23 +21,16 @@ use Rattle.layer_cache.specs.Cached.{empty_by}
 use Rattle.delay_revise.specs.Published.{published}
 use Rattle.delay_revise.specs.Working.{is_static, rows_over, evaluations_of, evaluations_over}
 use Rattle.delay_revise.proofs.Alike.{row_alike, points_alike}
+use Rattle.delay_revise.proofs.Occurs.{inside_is}
 
 -- ---- rules that are true nowhere
-
-inside_is : (w q t : ℕ) (b : Bool) → w < t → t ≤ q → false ≡ (ltb w t && leb t q && b) → b ≡ false
-inside_is w q t true low high is = grind (arith, nat_tests)
-inside_is w q t false low high is = refl
-
-no_items : (xs : List ℕ) → length xs ≡ 0 → xs ≡ []
-no_items [] none = refl
-no_items (x ∷ xs) none = absurd (omega (arith, none))
 
 nowhere : (test : ℕ → Bool) (w q t : ℕ) → length (points test w q) ≡ 0 → w < t → t ≤ q
     → test t ≡ false
 nowhere test w q t none low high =
-    inside_is w q t (test t) low high
-    (sym (ap (λ (xs : List ℕ). contains xs t) (no_items (points test w q) none))
-    ∙ (points_are test w q (omega arith)).each t)
+    sym (inside_is w q t (test t) low high)
+    ∙ sym ((points_are test w q (omega arith)).each t)
+    ∙ ap (λ (xs : List ℕ). contains xs t) (nil_from_length (points test w q) none)
 
 body_by : (a b : Bool) → a ≡ false → (a && b) ≡ false
 body_by true b is = absurd (true≢false is)

@@ -8,6 +8,7 @@ use Rattle.std.proofs.Math.Bool.{or-false}
 use Rattle.std.proofs.Math.Path.{fun_ext}
 use Rattle.std.proofs.lemmas.List.Folds.{list_all-append}
 use Rattle.std.proofs.lemmas.Option.{slice_get-map}
+use Rattle.std.proofs.lemmas.Bool.{and_parts}
 use Rattle.ground_types.specs.History.{before_seal}
 use Rattle.ground_types.specs.Meaning.{units_of_rule, units_of_expr, units_of_kind}
 use Rattle.ground_types.specs.Members.{contains}
@@ -19,7 +20,6 @@ use Rattle.ground_types.specs.Sound.{IsSound, unit_values, initial_fits, rule_fi
 use Rattle.ground_types.specs.Sound.{is_union, kind_fits}
 use Rattle.ground_types.specs.Truth.{Table, is_value, holds, body_holds}
 use Rattle.ground_types.specs.Windows.{left, right}
-use Rattle.std.proofs.lemmas.Bool.{and_parts}
 use Rattle.ground_types.specs.declared.entries.Entry.{Entry}
 use Rattle.ground_types.specs.declared.program.Expr.{Expr}
 use Rattle.ground_types.specs.declared.program.Rule.{Rule}
@@ -105,26 +105,28 @@ module _ (program : Program) (history : List Entry) (store : Events) (below : Li
       (all_right (contains below) (units_of_rule rule) (flat_map units_of_rule rest) done) above
       within)
 
-  some_found : (count : ℕ) (rules : List Rule) (t : ℕ) → list_all (rule_fits program count) rules
+  some_body_found : (count : ℕ) (rules : List Rule) (t : ℕ) → list_all (rule_fits program count)
+      rules
       ≡ true →
       list_all (contains below) (flat_map units_of_rule rules) ≡ true → left program.plan 0 < t
       → t ≤ right program.plan 0 →
       list_any (λ rule. body_holds (known rows store) rule t) rules
       ≡ list_any (λ rule. body_holds (query_table program history 0) rule t) rules
-  some_found count [] t fit done above within = refl
-  some_found count (rule ∷ rest) t fit done above within =
+  some_body_found count [] t fit done above within = refl
+  some_body_found count (rule ∷ rest) t fit done above within =
       ap₂ (λ (a b : Bool). a || b) (first_found count rule rest t fit done above within)
-      (some_found count rest t (and_parts (rule_fits program count rule)
+      (some_body_found count rest t (and_parts (rule_fits program count rule)
       (list_all (rule_fits program count) rest) fit).1
       (all_right (contains below) (units_of_rule rule) (flat_map units_of_rule rest) done) above
       within)
 
-  values_found : (count : ℕ) (rules : List Rule) (t : ℕ) → list_all (rule_fits program count) rules
+  rule_values_found : (count : ℕ) (rules : List Rule) (t : ℕ) → list_all (rule_fits program count)
+      rules
       ≡ true →
       list_all (contains below) (flat_map units_of_rule rules) ≡ true → left program.plan 0 < t
       → t ≤ right program.plan 0 →
       values_of (known rows store) rules t ≡ values_of (query_table program history 0) rules t
-  values_found count rules t fit done above within = ap (map (λ (rule : Rule). rule.value))
+  rule_values_found count rules t fit done above within = ap (map (λ (rule : Rule). rule.value))
       (bodies_found count rules t fit done above within)
 
   -- the value of a simple fluent over the rows is that in query 0
@@ -154,10 +156,12 @@ module _ (program : Program) (history : List Entry) (store : Events) (below : Li
       value_alike initially (values_of (known rows store) initiate) (values_of table initiate)
       (values_of (known rows store) terminate)
       (values_of table terminate) w q t above within
-      (λ u p low high. ap (λ (l : List ℕ). contains l u) (values_found count initiate p fit.inits
+      (λ u p low high. ap (λ (l : List ℕ). contains l u) (rule_values_found count initiate p
+      fit.inits
       (all_left (contains below) (flat_map units_of_rule initiate)
       (flat_map units_of_rule terminate) done) low high))
-      (λ u p low high. ap (λ (l : List ℕ). contains l u) (values_found count terminate p fit.terms
+      (λ u p low high. ap (λ (l : List ℕ). contains l u) (rule_values_found count terminate p
+      fit.terms
       (all_right (contains below) (flat_map units_of_rule initiate)
       (flat_map units_of_rule terminate) done) low high)) in
       ap (λ (o : Option ℕ). is_value o v) (same ∙ sym at)
@@ -172,7 +176,7 @@ module _ (program : Program) (history : List Entry) (store : Events) (below : Li
       ≡ (query_table program history 0).derived number t
   derived_found number t rules kind fit done above within =
       let table : Table = query_table program history 0 in
-      some_found 1 rules t fit done above within
+      some_body_found 1 rules t fit done above within
       ∙ sym ((table_means program history 0 sound).derived_events number t
       ∙ ap (λ (k : UnitKind). derived_of_unit table k t) kind)
 

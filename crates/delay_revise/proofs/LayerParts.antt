@@ -1,13 +1,13 @@
 -- The parts of a layer, and of a list of layers.
 use Rattle.std.proofs.Common.{◌≡◌, ◌⊎◌, inl, inr, ℕ, nat_lt, eqb, Bool, true, false, not, ◌&&◌}
-use Rattle.std.proofs.Common.{◌||◌, List, [], ◌∷◌, ◌++◌, flat_map, length, refl, sym, ◌∙◌, ap, ap₂}
+use Rattle.std.proofs.Common.{List, [], ◌∷◌, ◌++◌, flat_map, length, refl, sym, ◌∙◌, ap₂}
 use Rattle.std.proofs.Common.{subst, append_assoc, append-nil}
 use Rattle.std.specs.List.{list_all}
+use Rattle.std.proofs.lemmas.Bool.{and_parts, or_right}
 use Rattle.ground_types.specs.Meaning.{units_of_kind, is_layer, are_layers}
 use Rattle.ground_types.specs.Members.{contains}
 use Rattle.ground_types.specs.Recognition.{kind_of}
 use Rattle.ground_types.proofs.Members.{contains_hit, contains_left}
-use Rattle.std.proofs.lemmas.Bool.{and_parts}
 use Rattle.ground_types.proofs.Members.{contains_either, contains_neither, first_or_rest}
 use Rattle.ground_types.specs.declared.program.Program.{Program}
 
@@ -89,19 +89,13 @@ layer_apart program below (x ∷ xs) ys unit is among =
     apart_by x unit xs ys (first_or_rest x xs unit among) (contains_neither xs ys x first.once).1
     (λ later. layer_apart program below xs ys unit first.others later)
 
-all_more : (one two : ℕ → Bool) (xs : List ℕ) → ((x : ℕ) → one x ≡ true → two x ≡ true)
-    → list_all one xs ≡ true → list_all two xs ≡ true
+-- where what passes one test passes another, a list that passes the one passes the other
+pub all_more : {X : Type 0} (one two : X → Bool) (xs : List X)
+    → ((x : X) → one x ≡ true → two x ≡ true) → list_all one xs ≡ true → list_all two xs ≡ true
 all_more one two [] more all = refl
 all_more one two (x ∷ xs) more all =
     ap₂ (λ (a b : Bool). a && b) (more x (and_parts (one x) (list_all one xs) all).0)
     (all_more one two xs more (and_parts (one x) (list_all one xs) all).1)
-
-or_true : (b : Bool) → (b || true) ≡ true
-or_true true = refl
-or_true false = refl
-
-out_or : (x : ℕ) (xs : List ℕ) (unit : ℕ) → contains xs unit ≡ true → contains (x ∷ xs) unit ≡ true
-out_or x xs unit is = ap (λ (b : Bool). eqb x unit || b) is ∙ or_true (eqb x unit)
 
 -- a layer over some units is one over more units that are not its own
 layer_over : (program : Program) (below more layer : List ℕ)
@@ -119,7 +113,7 @@ layer_over program below more (x ∷ xs) within out is =
       named = all_more (contains below) (contains more) (units_of_kind (kind_of program x)) within
           first.named;
       others = layer_over program below more xs within (λ unit among.
-          out unit (out_or x xs unit among)) first.others;
+          out unit (or_right (eqb x unit) (contains xs unit) among)) first.others;
     })
 
 neither_by : (below xs ys : List ℕ) (unit : ℕ) (b : Bool) → contains xs unit ≡ b

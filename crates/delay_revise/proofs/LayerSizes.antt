@@ -8,11 +8,11 @@ use Rattle.std.proofs.lemmas.Bool.Decides.{nat_tests}
 use Rattle.std.proofs.lemmas.List.Folds.{list_any-append, list_all-append}
 use Rattle.std.proofs.lemmas.List.Sums.{sum_by-cons, sum_by_more_le, AllPass-from_list_all}
 use Rattle.std.proofs.lemmas.Map.Steps.{length-le_from_distinct_below}
+use Rattle.std.proofs.lemmas.Bool.{and_parts}
 use Rattle.ground_types.specs.Meaning.{is_layer, are_layers, IsLayered}
 use Rattle.ground_types.specs.Members.{contains}
 use Rattle.ground_types.specs.Sound.{IsSound}
 use Rattle.ground_types.proofs.Members.{contains_neither}
-use Rattle.std.proofs.lemmas.Bool.{and_parts}
 use Rattle.ground_types.specs.declared.program.Program.{Program}
 use Rattle.delay_revise.proofs.LayerParts.{IsFirstUnit, first_unit}
 
@@ -71,16 +71,16 @@ distinct_more program below units (unit ∷ rest) is out distinct =
       distinct_more program below units rest first.others out distinct,
     )
 
-below_by : (n q x : ℕ) (later : Bool) → ltb x n ≡ true → (later ≡ true → q < n)
+below_first : (n q x : ℕ) (later : Bool) → ltb x n ≡ true → (later ≡ true → q < n)
     → (eqb q x || later) ≡ true → q < n
-below_by n q x true is go at = go refl
-below_by n q x false is go at = grind (arith, nat_tests)
+below_first n q x true is go at = go refl
+below_first n q x false is go at = grind (arith, nat_tests)
 
 below_of : (n : ℕ) (xs : List ℕ) (q : ℕ) → are_below n xs ≡ true → list_any (eqb q) xs ≡ true
     → q < n
 below_of n [] q all at = cc
 below_of n (x ∷ xs) q all at =
-    below_by n q x (list_any (eqb q) xs) (and_parts (ltb x n) (are_below n xs) all).0
+    below_first n q x (list_any (eqb q) xs) (and_parts (ltb x n) (are_below n xs) all).0
     (λ later. below_of n xs q (and_parts (ltb x n) (are_below n xs) all).1 later) at
 
 few_by : (program : Program) (below units : List ℕ) (layers : List (List ℕ))

@@ -8,6 +8,7 @@ use Rattle.std.proofs.lemmas.Bool.Decides.{nat_tests}
 use Rattle.std.proofs.lemmas.List.Folds.{list_all-append}
 use Rattle.std.proofs.lemmas.Option.{slice_get-map, slice_get-get_or}
 use Rattle.std.proofs.lemmas.List.FromFn.{get_or-range_with_len, length-range_with_len}
+use Rattle.std.proofs.lemmas.Bool.{and_parts}
 use Rattle.ground_types.specs.History.{before_seal}
 use Rattle.ground_types.specs.Meaning.{IsMeaning, units_of_trigger, units_of_what, units_of_rule}
 use Rattle.ground_types.specs.Members.{contains}
@@ -19,7 +20,6 @@ use Rattle.ground_types.specs.Sound.{is_derived_event, trigger_fits, what_fits, 
 use Rattle.ground_types.specs.Truth.{Table, holds, happens, is_so, condition_holds, body_holds}
 use Rattle.ground_types.specs.Windows.{left, right}
 use Rattle.ground_types.proofs.Layers.{layers_are_meaning}
-use Rattle.std.proofs.lemmas.Bool.{and_parts}
 use Rattle.ground_types.proofs.Points.{points_are}
 use Rattle.ground_types.proofs.Rows.{runs_are}
 use Rattle.ground_types.specs.declared.entries.Entry.{Entry}

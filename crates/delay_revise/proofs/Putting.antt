@@ -4,10 +4,10 @@ use Rattle.std.proofs.Common.{List, [], ◌∷◌, ◌++◌, flat_map, length, g
 use Rattle.std.proofs.Common.{set, Option, Some, None, refl, sym, ◌∙◌, ap, ap₂, arith}
 use Rattle.std.specs.Prelude.{option_map, is_none}
 use Rattle.std.specs.List.{list_all, AllByRecursion}
-use Rattle.std.proofs.lemmas.Bool.Decides.{nat_tests}
 use Rattle.std.proofs.lemmas.List.{length-set}
 use Rattle.std.proofs.lemmas.List.Folds.{list_all-append}
 use Rattle.std.proofs.lemmas.Option.{slice_get-map, slice_get_within, slice_get_read}
+use Rattle.std.proofs.lemmas.Bool.{and_parts, lt-ltb, eqb-true, eqb-false, not-true}
 use Rattle.ground_types.specs.Meaning.{units_of_trigger, units_of_what, units_of_rule}
 use Rattle.ground_types.specs.Publication.{initial_of}
 use Rattle.ground_types.specs.Recognition.{kind_of, kind_or_idle}
@@ -15,7 +15,6 @@ use Rattle.ground_types.specs.Sound.{IsSound, unit_values, is_fluent_value, is_d
 use Rattle.ground_types.specs.Sound.{trigger_fits, what_fits, rule_fits, kind_fits}
 use Rattle.ground_types.specs.Touched.{rules_of}
 use Rattle.ground_types.specs.Windows.{left, right}
-use Rattle.std.proofs.lemmas.Bool.{and_parts, lt-ltb}
 use Rattle.ground_types.specs.declared.program.Cond.{Cond}
 use Rattle.ground_types.specs.declared.program.Rule.{Rule}
 use Rattle.ground_types.specs.declared.program.Trigger.{Trigger}
@@ -121,12 +120,6 @@ module _ (program : Program) where
   kind_named count (Static exprs) rows size fits = tt
   kind_named count (Derived rules) rows size fits = rules_named 1 rules rows size fits
 
--- what holds of each item of two lists together holds of each of the second
-pub each_right : {X : Type 0} (P : X → Type 0) (xs ys : List X) → AllByRecursion P (xs ++ ys)
-    → AllByRecursion P ys
-each_right P [] ys all = all
-each_right P (x ∷ xs) ys all = each_right P xs ys all.1
-
 -- a list with one item put
 put_here : {X : Type 0} (xs : List X) (i : ℕ) (y : X) → i < length xs → slice_get (set xs i y) i
     ≡ Some y
@@ -142,22 +135,9 @@ put_apart (x ∷ xs) zero (suc j) y apart = refl
 put_apart (x ∷ xs) (suc i) zero y apart = refl
 put_apart (x ∷ xs) (suc i) (suc j) y apart = put_apart xs i j y (λ same. apart (ap suc same))
 
-apart_of : (i j : ℕ) → eqb i j ≡ false → i ≡ j → ⊥
-apart_of i j differ same =
-    let hit : eqb i j ≡ true = grind (arith, nat_tests) in
-    let both : true ≡ false = sym hit ∙ differ in
-    cc
-
 none_of : (o : Option ℕ) → is_none o ≡ true → o ≡ None
 none_of None is = refl
 none_of (Some v) is = cc
-
-not_static : (b : Bool) → not b ≡ true → b ≡ false
-not_static true is = sym is
-not_static false is = refl
-
-zero_of : (n : ℕ) → eqb n 0 ≡ true → n ≡ 0
-zero_of n is = grind (arith, nat_tests)
 
 module _ (program : Program) (store : Events) (number : ℕ) (old : List UnitRows) (unit : Unit)
     (w q : ℕ)
@@ -197,7 +177,7 @@ module _ (program : Program) (store : Events) (number : ℕ) (old : List UnitRow
         (same_unit other there));
     others = λ other differ.
         ap (λ (l : List UnitRows). slice_get l other) set ∙ put_apart old number other made
-        (apart_of number other differ);
+        (eqb-false number other differ);
   }
 
   -- a unit whose rows are put is worked
@@ -225,7 +205,7 @@ module _ (program : Program) (store : Events) (number : ℕ) (old : List UnitRow
         (left program.plan 0) (right program.plan 0)
         other_kind (none_of (initial_of unit.kind) opens)
         (ap₂ (λ (a b : ℕ). evaluations_over (known old store) unit.kind a b) (sym from) (sym until)
-        ∙ sym is ∙ zero_of count none)
+        ∙ sym is ∙ eqb-true count 0 none)
         ∙ ap (λ (u : Unit). rows_over (known old store) (initial_of u.kind) (unit_values program u)
         u.kind (left program.plan 0) (right program.plan 0))
         (same_unit other there));
@@ -241,7 +221,7 @@ module _ (program : Program) (store : Events) (number : ℕ) (old : List UnitRow
       (and_parts (not (is_static unit.kind) && eqb count 0) (is_none (initial_of unit.kind))
       idle).0 in
       works_unit program store sound number old old count refl (λ inside. inside)
-      (put_none count (not_static (is_static unit.kind) (and_parts (not (is_static unit.kind))
+      (put_none count (not-true (is_static unit.kind) (and_parts (not (is_static unit.kind))
       (eqb count 0) first).0) is
       (and_parts (not (is_static unit.kind)) (eqb count 0) first).1
       (and_parts (not (is_static unit.kind) && eqb count 0) (is_none (initial_of unit.kind))

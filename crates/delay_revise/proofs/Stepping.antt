@@ -5,13 +5,13 @@ use Rattle.rt_base.specs.Counted.{Counted}
 sum_more : (a m n : ℕ) → a + m + n ≡ a + (m + n)
 sum_more a m n = omega arith
 
-pub steps_more : (first mid last : Counted) (m n : ℕ) → mid ≡ record {
+pub steps_joined : (first mid last : Counted) (m n : ℕ) → mid ≡ record {
   count = first.count + m;
   out = first.out;
 } →
     last ≡ record { count = mid.count + n; out = mid.out }
     → last ≡ record { count = first.count + (m + n); out = first.out }
-steps_more first mid last m n one two =
+steps_joined first mid last m n one two =
     let make : ℕ → ℕ → Counted = λ c o. record { count = c; out = o } in
     two ∙ ap₂ make (ap (λ (s : Counted). s.count + n) one ∙ sum_more first.count m n)
     (ap (λ (s : Counted). s.out) one)

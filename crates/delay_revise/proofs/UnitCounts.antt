@@ -9,6 +9,8 @@ use Rattle.std.proofs.lemmas.Grind.{flat_map-append}
 use Rattle.std.proofs.lemmas.List.Folds.{list_all-append}
 use Rattle.std.proofs.lemmas.List.FromFn.{length-range_with_len}
 use Rattle.std.proofs.lemmas.List.Sums.{sum_by-cons}
+use Rattle.std.proofs.lemmas.Bool.{and_parts}
+use Rattle.std.proofs.lemmas.List.Sums.{length-filter, count_by-le-length}
 use Rattle.ground_types.specs.History.{before_seal}
 use Rattle.ground_types.specs.Meaning.{units_of_trigger, units_of_what, units_of_rule}
 use Rattle.ground_types.specs.Meaning.{units_of_kind}
@@ -21,8 +23,6 @@ use Rattle.ground_types.specs.Sound.{rule_count}
 use Rattle.ground_types.specs.Touched.{touched, rules_of, evaluations_of_unit}
 use Rattle.ground_types.specs.Truth.{Table, happens}
 use Rattle.ground_types.specs.Windows.{left, right}
-use Rattle.std.proofs.lemmas.Bool.{and_parts}
-use Rattle.std.proofs.lemmas.List.Sums.{length-filter, count_by-le-length}
 use Rattle.ground_types.specs.declared.entries.Entry.{Entry}
 use Rattle.ground_types.specs.declared.program.Rule.{Rule}
 use Rattle.ground_types.specs.declared.program.UnitKind.{UnitKind}

@@ -5,6 +5,7 @@ use Rattle.std.proofs.Common.{sym, ◌∙◌, ap, ap₂, arith, subst}
 use Rattle.std.specs.List.{list_any, list_all, range_with_len, AllByRecursion}
 use Rattle.std.proofs.Math.Bool.{and-false, and-or_distrib_left}
 use Rattle.std.proofs.lemmas.Bool.Decides.{nat_tests}
+use Rattle.std.proofs.lemmas.Bool.{and_parts}
 use Rattle.ground_types.specs.Truth.{Table, body_holds, is_value}
 use Rattle.ground_types.specs.Members.{contains}
 use Rattle.ground_types.specs.Inertia.{values_with, has_value}
@@ -13,7 +14,6 @@ use Rattle.ground_types.specs.Rows.{row, points}
 use Rattle.ground_types.specs.Publication.{fluent_rows, event_row, initial_of}
 use Rattle.ground_types.specs.Sound.{kind_fits, rule_fits, initial_fits, trigger_fits, what_fits}
 use Rattle.ground_types.specs.Touched.{rules_of}
-use Rattle.std.proofs.lemmas.Bool.{and_parts}
 use Rattle.ground_types.proofs.Points.{points_are}
 use Rattle.ground_types.specs.declared.program.Program.{Program}
 use Rattle.ground_types.specs.declared.program.Rule.{Rule}
@@ -46,12 +46,13 @@ values_below program values (rule ∷ rest) is =
     (values_below program values rest (and_parts (rule_fits program values rule)
     (list_all (rule_fits program values) rest) is).1)
 
-each_left : (P : Rule → Type 0) (xs ys : List Rule) → AllByRecursion P (xs ++ ys)
+-- what holds of each item of two lists together holds of each of either
+pub each_left : {X : Type 0} (P : X → Type 0) (xs ys : List X) → AllByRecursion P (xs ++ ys)
     → AllByRecursion P xs
 each_left P [] ys all = tt
 each_left P (x ∷ xs) ys all = (all.0, each_left P xs ys all.1)
 
-each_right : (P : Rule → Type 0) (xs ys : List Rule) → AllByRecursion P (xs ++ ys)
+pub each_right : {X : Type 0} (P : X → Type 0) (xs ys : List X) → AllByRecursion P (xs ++ ys)
     → AllByRecursion P ys
 each_right P [] ys all = all
 each_right P (x ∷ xs) ys all = each_right P xs ys all.1

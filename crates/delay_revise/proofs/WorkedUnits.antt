@@ -10,6 +10,7 @@ use Rattle.std.proofs.lemmas.Grind.{flat_map-append}
 use Rattle.std.proofs.lemmas.List.{length-map, take_more}
 use Rattle.std.proofs.lemmas.List.Sums.{sum_by-cons, sum_by-append, sum_by_more_le}
 use Rattle.std.proofs.lemmas.Option.{slice_get_within}
+use Rattle.std.proofs.lemmas.Bool.{and_parts}
 use Rattle.ground_types.specs.History.{before_seal}
 use Rattle.ground_types.specs.Meaning.{units_of_kind, is_layer, are_layers}
 use Rattle.ground_types.specs.Members.{contains}
@@ -20,7 +21,6 @@ use Rattle.ground_types.specs.Sound.{IsSound, unit_values, kind_fits}
 use Rattle.ground_types.specs.Touched.{evaluations_of_unit, evaluations}
 use Rattle.ground_types.specs.Windows.{left, right}
 use Rattle.ground_types.proofs.Members.{contains_either, contains_neither}
-use Rattle.std.proofs.lemmas.Bool.{and_parts}
 use Rattle.ground_types.proofs.Members.{first_or_rest}
 use Rattle.ground_types.specs.declared.entries.Entry.{Entry}
 use Rattle.ground_types.specs.declared.program.Unit.{Unit}

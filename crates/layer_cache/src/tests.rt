@@ -111,7 +111,7 @@ fn first_row(rows: &UnitRows) -> Option<&[Span]> {
 }
 
 // The first row of the gear, now and before, and that of the alarm, after some calls.
-fn told(alloc: Global, calls: &[Call]) -> Result<String, Fail> {
+fn shown(alloc: Global, calls: &[Call]) -> Result<String, Fail> {
     let cache = after(alloc, calls)?;
     let now = first_row(cache.row(0));
     let before = first_row(cache.old_row(0));
@@ -143,7 +143,7 @@ fn a_unit_has_the_rows_that_were_put_last(rt: HostRuntime) -> Result<(), Fail> {
         (&[Gear(LOW, HIGH), Turn, Turn], LOW_ALONE),
     ];
     for (calls, wanted) in table {
-        let found = told(rt.alloc(), calls)?;
+        let found = shown(rt.alloc(), calls)?;
         assert_eq!(rt; found.as_str(), wanted);
     }
     Ok(())

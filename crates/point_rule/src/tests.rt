@@ -84,7 +84,7 @@ fn heated(alloc: Global) -> Result<Cache, Fail>
 }
 
 // The first event stands at some points in and round the window (0, 10], the second nowhere.
-fn store(alloc: Global) -> Result<EventStore, Fail> {
+fn events(alloc: Global) -> Result<EventStore, Fail> {
     let mut store = EventStore::new(alloc);
     for at in [4, 0, 12, 10, 5, 8, 6, 4] {
         store.add(0, at)?;
@@ -172,7 +172,7 @@ fn is_true(rule: &Rule, cache: &Cache, store: &EventStore, at: Point) -> bool
 
 // The points up to 12 at which the guarded rule is true.
 fn true_points(alloc: Global) -> Result<Vec<Point>, Fail> {
-    let (cache, store, rule) = (cache(alloc)?, store(alloc)?, rule(alloc, Named::Guarded)?);
+    let (cache, store, rule) = (cache(alloc)?, events(alloc)?, rule(alloc, Named::Guarded)?);
     let mut found = Vec::new(alloc);
     for at in 0..13 {
         if is_true(&rule, &cache, &store, at) {
@@ -224,7 +224,7 @@ fn a_rule_has_the_points_at_which_it_is_true(rt: HostRuntime) -> Result<(), Fail
         (Named::End, &[7], &[7]),
         (Named::Guarded, &[4, 5, 6, 8, 10], &[4, 6]),
     ];
-    let (cache, store) = (cache(rt.alloc())?, store(rt.alloc())?);
+    let (cache, store) = (cache(rt.alloc())?, events(rt.alloc())?);
     for (named, looked_at, wanted) in table {
         let (at, found) = told(rt.alloc(), named, &cache, &store)?;
         assert_eq!(rt; (at.as_slice(), found.as_slice()), (looked_at, wanted));

@@ -1,11 +1,11 @@
 -- Where every row lies within a window, so does every expression over them.
 use Rattle.std.proofs.Common.{◌≡◌, ℕ, ◌<◌, ◌≤◌, ◌+◌, true, not, ◌==◌, inl}
 use Rattle.std.proofs.Common.{inr, List, slice_get}
+use Rattle.std.proofs.lemmas.Bool.{and_parts, or_cases}
 use Rattle.ground_types.specs.Truth.{expr_holds, some_holds, each_holds}
 use Rattle.ground_types.specs.Sound.{member_count}
 use Rattle.ground_types.specs.declared.program.Expr.{Expr, Row, Union', Intersect', Complement'}
 use Rattle.ground_types.specs.declared.program.Expr.{Row_of-Expr, end_of-Expr, more_of-Expr}
-use Rattle.std.proofs.lemmas.Bool.{and_parts, or_cases}
 use Rattle.layer_cache.specs.Told.{told, fluent_has}
 use Rattle.span_algebra.specs.declared.rows.UnitRows.{UnitRows}
 use Rattle.static_fluent.specs.Constructs.{has_members, all_have_members}

@@ -6,12 +6,12 @@ use Rattle.std.proofs.lemmas.Bool.Decides.{nat_tests}
 use Rattle.std.proofs.lemmas.List.Folds.{list_all-append, list_all-map}
 use Rattle.std.specs.List.{list_any, list_all}
 use Rattle.std.specs.Global.{Vec}
+use Rattle.std.specs.Cmp.Derive.{both_true}
+use Rattle.std.proofs.lemmas.Bool.{and_parts}
 use Rattle.ground_types.specs.Truth.{Table, expr_holds, some_holds, each_holds}
 use Rattle.ground_types.specs.Meaning.{units_of_expr, units_of_members}
 use Rattle.ground_types.specs.Sound.{member_count}
-use Rattle.std.specs.Cmp.Derive.{both_true}
 use Rattle.ground_types.specs.declared.program.Expr as expr
-use Rattle.std.proofs.lemmas.Bool.{and_parts}
 use Rattle.static_fluent.specs.Constructs.{has_members, all_have_members, has_rows}
 
 -- ---- lists that agree, item by item

@@ -4,7 +4,7 @@ use Rattle.ground_types.specs.Touched.{rules_of}
 use Rattle.ground_types.specs.declared.program.Rule.{Rule}
 use Rattle.ground_types.specs.declared.program.UnitKind.{UnitKind}
 use Rattle.point_rule.specs.Known.{known, HasRows}
-use Rattle.delay_revise.proofs.Putting.{each_right}
+use Rattle.delay_revise.proofs.UnitRows.{each_right}
 use Rattle.delay_revise.proofs.Stepping.{if_ok_more}
 use Rattle.delay_revise.proofs.UnitCounts.{rules_few, simple_few}
 use Rattle.delay_revise.proofs.first.evaluations_of_unit.Goals as goal

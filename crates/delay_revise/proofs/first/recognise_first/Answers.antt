@@ -7,7 +7,7 @@ use Rattle.ground_types.specs.Windows.{left, right}
 use Rattle.delay_revise.proofs.Gathering.{on_err}
 use Rattle.delay_revise.proofs.InWindow.{empty_inside}
 use Rattle.delay_revise.proofs.LayerSizes.{are_below, layer_known_at, layers_fit}
-use Rattle.delay_revise.proofs.Stepping.{steps_more}
+use Rattle.delay_revise.proofs.Stepping.{steps_joined}
 use Rattle.delay_revise.proofs.WorkedUnits.{layer_more, layer_refused, layers_done, all_rows}
 use Rattle.delay_revise.proofs.WorkedUnits.{all_evaluations}
 use Rattle.delay_revise.proofs.first.recognise_first.Goals as goal
@@ -64,7 +64,7 @@ loop-layer-preserved g c = record {
     c.loop-layer.invariant.most,
     c.in_ok-evaluations.ensures.most,
   );
-  steps = steps_more c.args.steps.now c.loop-layer.steps c.work_layer.new.steps
+  steps = steps_joined c.args.steps.now c.loop-layer.steps c.work_layer.new.steps
       c.loop-layer.evaluations c.in_ok-evaluations.field-0
       c.loop-layer.invariant.steps c.in_ok-evaluations.ensures.steps;
 }

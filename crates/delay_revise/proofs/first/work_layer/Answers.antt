@@ -1,7 +1,7 @@
 use Rattle.std.proofs.Common.{◌∙◌, ap, arith}
 use Rattle.rt_base.specs.Counted.{Counted}
 use Rattle.delay_revise.proofs.Gathering.{on_err}
-use Rattle.delay_revise.proofs.Stepping.{steps_more}
+use Rattle.delay_revise.proofs.Stepping.{steps_joined}
 use Rattle.delay_revise.proofs.WorkedUnits.{unit_more, unit_refused}
 use Rattle.delay_revise.proofs.first.work_layer.Goals as goal
 
@@ -13,7 +13,7 @@ loop-unit-preserved g c = record {
       c.in_ok-count.ensures.works;
   before = c.work_unit.ensures.before ∙ c.loop-unit.invariant.before;
   most = omega (arith, c.loop-unit.invariant.most, c.in_ok-count.ensures.most);
-  steps = steps_more c.args.steps.now c.loop-unit.steps c.work_unit.new.steps c.loop-unit.count
+  steps = steps_joined c.args.steps.now c.loop-unit.steps c.work_unit.new.steps c.loop-unit.count
       c.in_ok-count.field-0 c.loop-unit.invariant.steps
       c.in_ok-count.ensures.steps;
 }
