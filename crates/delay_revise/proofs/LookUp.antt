@@ -1,18 +1,20 @@
 -- What is looked up in the rows of units that are those of a query is what is true in it.
-use Rattle.std.proofs.Common.{◌≡◌, ℕ, ◌+◌, ◌-◌, ◌<◌, ◌≤◌, Bool, true, false, not, cond, ◌&&◌, ◌||◌}
+use Rattle.std.proofs.Common.{◌≡◌, ℕ, zero, suc, ◌+◌, ◌-◌, ◌<◌, ◌≤◌, Bool, true, false, not, cond}
+use Rattle.std.proofs.Common.{◌&&◌, ◌||◌}
 use Rattle.std.proofs.Common.{leb, ltb, nat_lt, List, [], ◌∷◌, map, flat_map, length, slice_get}
 use Rattle.std.proofs.Common.{Option, Some, None, refl, sym, ◌∙◌, ap, ap₂, arith}
 use Rattle.std.specs.Prelude.{option_map}
-use Rattle.std.specs.List.{list_all, range_with_len}
+use Rattle.std.specs.List.{list_all, range_with_len, enumerate_from}
 use Rattle.std.proofs.lemmas.Bool.Decides.{nat_tests}
 use Rattle.std.proofs.lemmas.List.Folds.{list_all-append}
-use Rattle.std.proofs.lemmas.Option.{slice_get-map, slice_get-get_or}
+use Rattle.std.proofs.lemmas.Option.{slice_get-map, slice_get-get_or, same_Some}
 use Rattle.std.proofs.lemmas.List.FromFn.{get_or-range_with_len, length-range_with_len}
 use Rattle.std.proofs.lemmas.Bool.{and_parts}
 use Rattle.ground_types.specs.History.{before_seal}
 use Rattle.ground_types.specs.Meaning.{IsMeaning, units_of_trigger, units_of_what, units_of_rule}
 use Rattle.ground_types.specs.Members.{contains}
-use Rattle.ground_types.specs.Publication.{rows_of_kind, opening_of, events_of_query, query_table}
+use Rattle.ground_types.specs.Publication.{PublishedRows, rows_of_kind, value_count, opening_of}
+use Rattle.ground_types.specs.Publication.{events_of_query, query_table, publication}
 use Rattle.ground_types.specs.Recognition.{is_among, listed}
 use Rattle.ground_types.specs.Rows.{covers, row, points}
 use Rattle.ground_types.specs.Sound.{IsSound, unit_values, is_fluent, is_fluent_value}
@@ -41,7 +43,7 @@ use Rattle.span_algebra.specs.Normal.{has, covers as has_span}
 use Rattle.span_algebra.specs.declared.spans.Span.{Span}
 use Rattle.span_algebra.specs.declared.rows.UnitRows.{UnitRows}
 use Rattle.span_algebra.specs.declared.rows.UnitRows.TheVariants.{Fluent, Event}
-use Rattle.delay_revise.specs.Published.{published, Stand, OccurIn}
+use Rattle.delay_revise.specs.Published.{published, Stand, OccurIn, HaveRowsOf}
 use Rattle.delay_revise.specs.Worked.{IsWorked}
 use Rattle.delay_revise.proofs.Occurs.{inside_is, occurs_there}
 
@@ -139,21 +141,34 @@ contains_inside : (test : ℕ → Bool) (w q t : ℕ) → w < t → t ≤ q → 
 contains_inside test w q t above within =
     (points_are test w q (omega arith)).each t ∙ inside_is w q t (test t) above within
 
--- the rows of these units are those of query k, by the kind of each
-abbrev pub HaveRows : Program → List Entry → ℕ → List ℕ → List UnitRows → Type 0
-HaveRows program history k units rows =
-    (number : ℕ) (unit : Unit) → slice_get program.units number ≡ Some unit
-    → contains units number ≡ true →
-    option_map published (slice_get rows number)
+place_of : (at : ℕ × Unit → PublishedRows) (a k n : ℕ) (units : List Unit) (unit : Unit)
+    → n ≡ a + k → slice_get units k ≡ Some unit →
+    slice_get (map at (enumerate_from a units)) k ≡ Some (at (n, unit))
+place_of at a k n [] unit is found = cc
+place_of at a zero n (u ∷ units) unit is found =
+    let first : a ≡ n = omega arith in
+    ap₂ (λ (m : ℕ) (x : Unit). Some (at (m, x))) first (same_Some u unit found)
+place_of at a (suc k) n (u ∷ units) unit is found = place_of at (a + 1) k n units unit
+    (omega arith) found
+
+-- what is published of a unit, by its kind
+published_of : (program : Program) (history : List Entry) (k number : ℕ) (unit : Unit)
+    → slice_get program.units number ≡ Some unit →
+    slice_get (publication program history k).rows number
     ≡ Some (rows_of_kind (query_table program history k) number (unit_values program unit)
     unit.kind (left program.plan k) (right program.plan k))
+published_of program history k number unit at =
+    place_of (λ unit. rows_of_kind (query_table program history k) unit.0
+    (value_count (slice_get program.names unit.1.name)) unit.1.kind (left program.plan k)
+    (right program.plan k)) 0 number number program.units unit (omega arith) at
 
 -- units that are worked have the rows of query 0
 pub rows_worked : (program : Program) (history : List Entry) (store : Events) (below : List ℕ)
     (rows : List UnitRows) → Stand program store (before_seal history 0)
-    → IsWorked program store below rows → HaveRows program history 0 below rows
+    → IsWorked program store below rows → HaveRowsOf program history 0 below rows
 rows_worked program history store below rows stand worked =
     λ number unit at done. worked.each number unit at done history stand
+    ∙ sym (published_of program history 0 number unit at)
 
 -- the input events of a store
 abbrev pub occurs_of : Events → ℕ → ℕ → Bool
@@ -162,7 +177,7 @@ occurs_of store event t = has (standing store event) t
 module _ (program : Program) (history : List Entry) (k : ℕ) (occurs : ℕ → ℕ → Bool)
     (below : List ℕ) (rows : List UnitRows)
     (sound : IsSound program) (events : OccurIn program history k occurs)
-    (have : HaveRows program history k below rows) where
+    (have : HaveRowsOf program history k below rows) where
   value_by : (number v t : ℕ) (unit : Option Unit) → slice_get program.units number ≡ unit
       → is_fluent_value program unit v ≡ true →
       contains below number ≡ true → left program.plan k < t → t ≤ right program.plan k + 1 →
@@ -178,7 +193,7 @@ module _ (program : Program) (history : List Entry) (k : ℕ) (occurs : ℕ → 
       (slice_get rows number)
       (and_parts (is_fluent unit.kind) (nat_lt v (unit_values program unit)) fits).0
       (grind (arith, nat_tests))
-      (have number unit at done)
+      (have number unit at done ∙ published_of program history k number unit at)
       ∙ covers_inside (holds table number v) w q t above within
 
   -- a fluent-value holds at a value point where its row has it
@@ -200,7 +215,8 @@ module _ (program : Program) (history : List Entry) (k : ℕ) (occurs : ℕ → 
       let w = left program.plan k in
       let q = right program.plan k in
       event_has_row table number (unit_values program unit) unit.kind w q t (slice_get rows number)
-      fits (have number unit at done)
+      fits
+      (have number unit at done ∙ published_of program history k number unit at)
       ∙ contains_inside (table.derived number) w q t above within
 
   first_done : (number : ℕ) (rest : List ℕ) → list_all (contains below) (number ∷ rest) ≡ true

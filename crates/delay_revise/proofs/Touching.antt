@@ -1,16 +1,14 @@
 -- The touched points of a rule over old and new rows are those of the query.
-use Rattle.std.proofs.Common.{◌≡◌, ◌⊎◌, inl, inr, ℕ, zero, suc, ◌+◌, ◌*◌, ◌<◌, ◌≤◌, Bool, true}
-use Rattle.std.proofs.Common.{◌&&◌, ◌||◌, nat_lt, map, List, [], ◌∷◌, flat_map, slice_get}
+use Rattle.std.proofs.Common.{◌≡◌, ◌⊎◌, inl, inr, ℕ, suc, ◌+◌, ◌*◌, ◌<◌, ◌≤◌, Bool, true}
+use Rattle.std.proofs.Common.{◌&&◌, ◌||◌, nat_lt, List, [], ◌∷◌, flat_map}
 use Rattle.std.proofs.Common.{Some, refl, sym, ◌∙◌, ap, ap₂, arith}
-use Rattle.std.specs.List.{list_all, list_any, enumerate_from}
+use Rattle.std.specs.List.{list_all, list_any}
 use Rattle.std.proofs.Math.Nat.{suc-mul}
 use Rattle.std.proofs.lemmas.Bool.{and_parts, lt-ltb, cases_lt}
 use Rattle.std.proofs.lemmas.List.Folds.{list_all-append}
-use Rattle.std.proofs.lemmas.Option.{same_Some, slice_get_within}
 use Rattle.ground_types.specs.Meaning.{units_of_trigger, units_of_what, units_of_rule}
 use Rattle.ground_types.specs.Members.{contains}
-use Rattle.ground_types.specs.Publication.{PublishedRows, query_table}
-use Rattle.ground_types.specs.Publication.{rows_of_kind, value_count}
+use Rattle.ground_types.specs.Publication.{query_table}
 use Rattle.ground_types.specs.Rows.{points}
 use Rattle.ground_types.specs.Sound.{IsSound, trigger_fits, what_fits, rule_fits}
 use Rattle.ground_types.specs.Touched.{differs, is_changed, is_unsettled, touched}
@@ -21,37 +19,12 @@ use Rattle.ground_types.specs.declared.program.Cond.{Cond}
 use Rattle.ground_types.specs.declared.program.Program.{Program}
 use Rattle.ground_types.specs.declared.program.Rule.{Rule}
 use Rattle.ground_types.specs.declared.program.Trigger.{Trigger}
-use Rattle.ground_types.specs.declared.program.Unit.{Unit}
 use Rattle.event_store.specs.Standing.{Events, stood}
 use Rattle.layer_cache.specs.Rows.{Cached}
 use Rattle.point_rule.specs.Known.{known, known_before, is_open}
-use Rattle.span_algebra.specs.declared.rows.UnitRows.{UnitRows}
 use Rattle.delay_revise.specs.Published.{OccurIn, HaveRowsOf}
 use Rattle.delay_revise.proofs.Alike.{points_alike}
-use Rattle.delay_revise.proofs.LookUp.{HaveRows, trigger_found, condition_found, occurs_of}
-
--- ---- rows that are published, by the kind of each unit
-
-place_of : (at : ℕ × Unit → PublishedRows) (a k n : ℕ) (units : List Unit) (unit : Unit)
-    → n ≡ a + k → slice_get units k ≡ Some unit →
-    slice_get (map at (enumerate_from a units)) k ≡ Some (at (n, unit))
-place_of at a k n [] unit is found = cc
-place_of at a zero n (u ∷ units) unit is found =
-    let first : a ≡ n = omega arith in
-    ap₂ (λ (m : ℕ) (x : Unit). Some (at (m, x))) first (same_Some u unit found)
-place_of at a (suc k) n (u ∷ units) unit is found = place_of at (a + 1) k n units unit
-    (omega arith) found
-
-have_rows : (program : Program) (history : List Entry) (k : ℕ) (units : List ℕ)
-    (rows : List UnitRows) → HaveRowsOf program history k units rows
-    → HaveRows program history k units rows
-have_rows program history k units rows have = λ number unit at done.
-    have number (slice_get_within program.units number unit at) done
-    ∙ place_of (λ unit. rows_of_kind (query_table program history k) unit.0
-    (value_count (slice_get program.names unit.1.name)) unit.1.kind (left program.plan k)
-    (right program.plan k)) 0 number number program.units unit (omega arith) at
-
--- ---- the touched points
+use Rattle.delay_revise.proofs.LookUp.{trigger_found, condition_found, occurs_of}
 
 module _ (program : Program) (history : List Entry) (k : ℕ) (units : List ℕ) (cached : Cached)
     (store : Events) (sound : IsSound program)
@@ -65,7 +38,7 @@ module _ (program : Program) (history : List Entry) (k : ℕ) (units : List ℕ)
       happens (known_before cached store) trigger t
       ≡ happens (query_table program history k) trigger t
   trigger_before = trigger_found program history k (stood store) units cached.before sound
-      old_events (have_rows program history k units cached.before old_rows)
+      old_events old_rows
 
   trigger_now : (trigger : Trigger) (t : ℕ) → trigger_fits program trigger ≡ true
       → list_all (contains units) (units_of_trigger trigger) ≡ true →
@@ -73,7 +46,7 @@ module _ (program : Program) (history : List Entry) (k : ℕ) (units : List ℕ)
       happens (known cached.rows store) trigger t
       ≡ happens (query_table program history (suc k)) trigger t
   trigger_now = trigger_found program history (suc k) (occurs_of store) units cached.rows sound
-      new_events (have_rows program history (suc k) units cached.rows new_rows)
+      new_events new_rows
 
   condition_before : (c : Cond) (t : ℕ) → what_fits program c.what ≡ true
       → list_all (contains units) (units_of_what c.what) ≡ true →
@@ -81,7 +54,7 @@ module _ (program : Program) (history : List Entry) (k : ℕ) (units : List ℕ)
       condition_holds (known_before cached store) c t
       ≡ condition_holds (query_table program history k) c t
   condition_before = condition_found program history k (stood store) units cached.before sound
-      old_events (have_rows program history k units cached.before old_rows)
+      old_events old_rows
 
   condition_now : (c : Cond) (t : ℕ) → what_fits program c.what ≡ true
       → list_all (contains units) (units_of_what c.what) ≡ true →
@@ -89,7 +62,7 @@ module _ (program : Program) (history : List Entry) (k : ℕ) (units : List ℕ)
       condition_holds (known cached.rows store) c t
       ≡ condition_holds (query_table program history (suc k)) c t
   condition_now = condition_found program history (suc k) (occurs_of store) units cached.rows sound
-      new_events (have_rows program history (suc k) units cached.rows new_rows)
+      new_events new_rows
 
   -- where the windows overlap, a condition has another truth in the two tables where it has in the
   -- two queries

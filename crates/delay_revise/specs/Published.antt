@@ -1,5 +1,5 @@
 -- Public contracts speak by this: what is computed, against what is published of a history.
-use Rattle.std.specs.Prelude.{◌≡◌, ◌<◌, ◌≤◌, ℕ, Bool, true, List, map, length, slice_get}
+use Rattle.std.specs.Prelude.{◌≡◌, ◌<◌, ◌≤◌, ℕ, Bool, true, List, map, slice_get, Some}
 use Rattle.std.specs.Prelude.{option_map}
 use Rattle.ground_types.specs.History.{stands, before_seal}
 use Rattle.ground_types.specs.Members.{contains}
@@ -7,6 +7,7 @@ use Rattle.ground_types.specs.Windows.{left, right}
 use Rattle.ground_types.specs.Publication.{PublishedRows, fluent_rows, event_row, publication}
 use Rattle.ground_types.specs.declared.entries.Entry.{Entry}
 use Rattle.ground_types.specs.declared.program.Program.{Program}
+use Rattle.ground_types.specs.declared.program.Unit.{Unit}
 use Rattle.span_algebra.specs.Normal.{has}
 use Rattle.span_algebra.specs.declared.rows.UnitRows.{UnitRows}
 use Rattle.span_algebra.specs.declared.rows.UnitRows.TheVariants.{Fluent, Event}
@@ -34,6 +35,7 @@ OccurIn program history k occurs =
 -- these units have the rows that are published of query k
 abbrev pub HaveRowsOf : Program → List Entry → ℕ → List ℕ → List UnitRows → Type 0
 HaveRowsOf program history k units rows =
-    (number : ℕ) → number < length program.units → contains units number ≡ true →
+    (number : ℕ) (unit : Unit) → slice_get program.units number ≡ Some unit
+    → contains units number ≡ true →
     option_map published (slice_get rows number) ≡ slice_get (publication program history k).rows
     number
