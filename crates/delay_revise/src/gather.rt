@@ -23,7 +23,7 @@ use std::alloc::Global;
 use std::marker::Model;
 use std::sync::ledger::Ledger;
 
-/// At how many points the bodies of rules have to be looked at for query 0.
+// At how many points the bodies of rules have to be looked at for query 0.
 pub(crate) fn evaluations_of(
     alloc: Global,
     rules: &[Rule],
@@ -148,9 +148,9 @@ impl Parts {
     }
 }
 
-/// The points of the window at which the body of some rule is true. The time is about that of
-/// sorting the points of all rules. The memory is within a constant factor of that of these points
-/// and of those of one rule, beside at most `ROOM`.
+// The points of the window at which the body of some rule is true. The time is about that of
+// sorting the points of all rules. The memory is within a constant factor of that of these points
+// and of those of one rule, beside at most `ROOM`.
 pub(crate) fn points_of_rules<L: Ledger>(
     alloc: Global,
     rules: &[Rule],
@@ -241,10 +241,10 @@ fn joined(alloc: Global, parts: &[Parts]) -> Result<Vec<Points>, OutOfMemory>
     Ok(found)
 }
 
-/// For each of so many values the points of the window at which the body of one of its rules is
-/// true. The time is about that of sorting the points of all rules. The memory is within a constant
-/// factor of that of the points of all values and of one rule, beside at most `ROOM` for each
-/// value.
+// For each of so many values the points of the window at which the body of one of its rules is
+// true. The time is about that of sorting the points of all rules. The memory is within a constant
+// factor of that of the points of all values and of one rule, beside at most `ROOM` for each
+// value.
 pub(crate) fn points_by_value<L: Ledger>(
     alloc: Global,
     rules: &[Rule],

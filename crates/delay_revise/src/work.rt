@@ -77,7 +77,7 @@ fn rows_of_simple<L: Ledger>(
     Ok(rows)
 }
 
-/// The rows of a unit over the window of query 0.
+// The rows of a unit over the window of query 0.
 pub(crate) fn rows_of_unit<L: Ledger>(
     alloc: Global,
     program: &Program,

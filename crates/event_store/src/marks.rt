@@ -14,9 +14,9 @@ use std::marker::Model;
 // store was settled last. A point that is added or taken away turns its mark: it is changed where
 // it was not, and is no longer where it was.
 #[derive(Drop)]
-pub struct Marks {
-    pub points: Points,
-    pub changed: Points,
+pub(crate) struct Marks {
+    pub(crate) points: Points,
+    pub(crate) changed: Points,
 }
 
 impl Model for Marks {
@@ -54,7 +54,7 @@ fn insert_both(first: &mut Points, second: &mut Points, at: Point) -> Result<(),
 
 impl Marks {
     // It stands nowhere, and did not.
-    pub fn new(alloc: Global) -> Marks
+    pub(crate) fn new(alloc: Global) -> Marks
         ensures { result ≡ record { points = []; changed = [] } }
     {
         Marks {
@@ -64,7 +64,7 @@ impl Marks {
     }
 
     // Lets it stand at a point, and says whether it did not before.
-    pub fn add(&mut self, at: Point) -> Result<bool, OutOfMemory>
+    pub(crate) fn add(&mut self, at: Point) -> Result<bool, OutOfMemory>
         ensures changed { IfOk result (λ changed. changed ≡ not (has self.old.points at)) }
         ensures standing { OnOk result ((t : ℕ) → has self.new.points t
             ≡ (has self.old.points t || (t == at))) }
@@ -85,7 +85,7 @@ impl Marks {
     }
 
     // Lets it stand no more at a point, and says whether it did.
-    pub fn revoke(&mut self, at: Point) -> Result<bool, OutOfMemory>
+    pub(crate) fn revoke(&mut self, at: Point) -> Result<bool, OutOfMemory>
         ensures changed { IfOk result (λ changed. changed ≡ has self.old.points at) }
         ensures standing { OnOk result ((t : ℕ) → has self.new.points t
             ≡ (has self.old.points t && not (t == at))) }
@@ -106,7 +106,7 @@ impl Marks {
     }
 
     // Forgets the points up to and with `w`.
-    pub fn slide(&mut self, w: Point)
+    pub(crate) fn slide(&mut self, w: Point)
         ensures { self.new ≡ record {
           points = filter (λ t. nat_lt w t) self.old.points;
           changed =
@@ -118,7 +118,7 @@ impl Marks {
     }
 
     // Takes what stands now for what stood.
-    pub fn settle(&mut self, alloc: Global)
+    pub(crate) fn settle(&mut self, alloc: Global)
         ensures { self.new ≡ record { points = self.old.points; changed = [] } }
     {
         self.changed = Points::new(alloc);

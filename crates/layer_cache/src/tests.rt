@@ -78,6 +78,7 @@ fn rows(alloc: Global, low: Span, high: Span) -> Result<UnitRows, Fail> {
     Ok(UnitRows::Fluent(List::of(vec![in alloc; low, high]?)))
 }
 
+// Makes a call.
 fn make(alloc: Global, cache: &mut Cache, call: Call) -> Result<(), Fail>
     requires rows { length cache.old.rows ≡ 2 }
     requires before { length cache.old.before ≡ 2 }
@@ -119,6 +120,7 @@ fn shown(alloc: Global, calls: &[Call]) -> Result<String, Fail> {
     Ok(format!(in alloc; "{now:?} {before:?} {alarm:?}")?)
 }
 
+// Where the two values hold.
 const LOW: Span = Span { after: 3, until: 7 };
 
 const HIGH: Span = Span {
@@ -126,6 +128,7 @@ const HIGH: Span = Span {
     until: 11,
 };
 
+// What is shown where low holds now, and where it did before the last turn.
 const LOW_ALONE: &str = "Some([Span { after: 3, until: 7 }]) Some([]) None";
 
 const LOW_BEFORE: &str = "Some([]) Some([Span { after: 3, until: 7 }]) None";

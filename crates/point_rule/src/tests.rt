@@ -129,6 +129,7 @@ fn of(first: Trigger, further: Vec<Cond>) -> Rule
     }
 }
 
+// Further conditions: unit 0 holds, unit 1 does not occur, and unit 2 does not hold.
 const HOLDS: Cond = Cond {
     positive: true,
     what: What::Holds(0, 0),
