@@ -1,7 +1,6 @@
 pub mod Windows
 pub mod Truth
 pub mod Members
-pub mod Names
 pub mod Inertia
 pub mod Recognition
 pub mod Rows
@@ -11,4 +10,5 @@ pub mod Touched
 pub mod Whole
 pub mod Meaning
 pub mod Sound
+pub mod Words
 pub mod Examples

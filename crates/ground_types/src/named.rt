@@ -1,7 +1,7 @@
 // What the numbers in a program name.
 ghost use Rattle.std.specs.Prelude.{◌≡◌, slice_get};
 ghost use Rattle.std.specs.Option.{option_copied};
-ghost use Rattle.ground_types.specs.Names.{entity_word};
+ghost use Rattle.ground_types.specs.Words.{entity_word};
 ghost use Rattle.ground_types.specs.Sound.{is_input, unit_values};
 
 use crate::{Domain, Name, NameKind, Program, Unit};

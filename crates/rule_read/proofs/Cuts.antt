@@ -5,6 +5,7 @@ use Rattle.std.specs.List.{list_all, prefix_len}
 use Rattle.std.specs.Prelude.{if◌then◌else◌, take_while}
 use Rattle.std.proofs.lemmas.Bool.Decides.{nat_tests}
 use Rattle.rt_base.specs.Kinds.{is_letter}
+use Rattle.std.proofs.lemmas.Bool.{and_parts}
 use Rattle.rule_read.specs.declared.token.Class.{Class}
 use Rattle.rule_read.specs.declared.token.Class.TheVariants as class
 use Rattle.rule_read.specs.declared.token.Mark.{Mark}
@@ -13,7 +14,7 @@ use Rattle.rule_read.specs.declared.token.Mark.TheVariants.{Equals, If, Differs,
 use Rattle.rule_read.specs.Bytes.{class_of}
 use Rattle.rule_read.specs.Tokens.{Token, Word, Sign, Said, Dot, Placed, Text, put, cut, pieces}
 use Rattle.rule_read.specs.Tokens.{at_byte}
-use Rattle.rule_read.specs.Sound.{AllOf}
+use Rattle.rule_forms.specs.Sound.{AllOf}
 use Rattle.rule_read.specs.Canonical.{mark_bytes, token_bytes, space_between, line_of}
 use Rattle.rule_read.specs.Printed.{space_behind}
 use Rattle.rule_read.proofs.ByToken.{line_more}
@@ -32,11 +33,6 @@ said_on line (t ∷ ts) rest = put line (Said t) (said_on line ts rest)
 abbrev NoLetter : List ℕ → Type 0
 NoLetter [] = Unit {0}
 NoLetter (b ∷ bs) = is_letter b ≡ false
-
-pub both : (a b : Bool) → (a && b) ≡ true → (a ≡ true) × (b ≡ true)
-both true true e = (refl, refl)
-both true false e = absurd cc
-both false b e = absurd cc
 
 abbrev of_letter : Class → Bool
 of_letter class.Letter = true
@@ -63,7 +59,7 @@ unfolding cut
 word_ends line [] [] h ends = refl
 word_ends line [] (b ∷ bs) h ends = begins_anew (class_of b) line b bs (no_letter_class b ends)
 word_ends line (b ∷ w) rest h ends =
-    let p = both (is_letter b) (list_all is_letter w) h in
+    let p = and_parts (is_letter b) (list_all is_letter w) h in
     ap (λ k. at_byte k line true b (w ++ rest) (λ at mode. cut at mode (w ++ rest)))
     (letter_class b p.0) ∙ word_ends line w rest p.1 ends
 
@@ -75,7 +71,7 @@ takes_word : (w rest : List ℕ) → list_all is_letter w ≡ true → NoLetter 
 takes_word [] [] h ends = refl
 takes_word [] (b ∷ bs) h ends = rw ends refl
 takes_word (b ∷ w) rest h ends =
-    let p = both (is_letter b) (list_all is_letter w) h in
+    let p = and_parts (is_letter b) (list_all is_letter w) h in
     rw p.0 (one_more (prefix_len is_letter (w ++ rest)) b (w ++ rest)
     ∙ ap (λ (bs : List ℕ). b ∷ bs) (takes_word w rest p.1 ends))
 
@@ -84,7 +80,7 @@ word_cut : (line : ℕ) (w rest : List ℕ) → IsWritten (Word w) → NoLetter 
 unfolding cut
 word_cut line [] rest h ends = absurd (omega (arith, h.1))
 word_cut line (b ∷ w) rest h ends =
-    let p = both (is_letter b) (list_all is_letter w) h.0 in
+    let p = and_parts (is_letter b) (list_all is_letter w) h.0 in
     ap (λ k. at_byte k line false b (w ++ rest) (λ at mode. cut at mode (w ++ rest)))
     (letter_class b p.0)
     ∙ ap (λ word. put line (Said (Word word)) (cut line (Text true) (w ++ rest)))

@@ -8,20 +8,19 @@ use Rattle.std.proofs.lemmas.Fmt.{digits_decimal, digits_value-decimal, length-d
 use Rattle.std.proofs.lemmas.Fmt.{decimal_nonempty}
 use Rattle.std.proofs.lemmas.Bool.Decides.{nat_tests}
 use Rattle.rt_base.specs.Kinds.{is_letter}
+use Rattle.std.proofs.lemmas.Bool.{and_parts}
+use Rattle.rule_read.proofs.Numbers.{own}
 use Rattle.rule_read.specs.declared.keyword.Keyword.{Keyword}
 use Rattle.rule_read.specs.Tokens.{Word}
 use Rattle.rule_read.specs.Words.{is_number, number_after, number_of}
-use Rattle.rule_read.specs.Forms.{number_tokens}
+use Rattle.rule_read.specs.FormTokens.{number_tokens}
 use Rattle.rule_read.specs.Grammar.{SpellsNumber}
-use Rattle.rule_read.proofs.Cuts.{IsWritten, both}
-
-own : IsNumeralModel (λ ds. list_all is_ascii_digit ds ≡ true) number_of
-own = numerals_by_fold _ (search rules) number_after (search rules)
+use Rattle.rule_read.proofs.Cuts.{IsWritten}
 
 letters : (ds : List ℕ) → list_all is_ascii_digit ds ≡ true → list_all is_letter ds ≡ true
 letters [] h = refl
 letters (d ∷ ds) h =
-    let p = both (is_ascii_digit d) (list_all is_ascii_digit ds) h in
+    let p = and_parts (is_ascii_digit d) (list_all is_ascii_digit ds) h in
     let first : is_letter d ≡ true = grind (arith, nat_tests, p.0) in rw first (letters ds p.1)
 
 below : (n : ℕ) → n < 10 ^ 16 → n < 2 ^ 64

@@ -4,16 +4,16 @@ use Rattle.std.proofs.Common.{ap, ◌∙◌, append_assoc, arith}
 use Rattle.rule_read.specs.declared.token.Mark.TheVariants.{Close, Comma}
 use Rattle.rule_read.specs.declared.keyword.Keyword.{Keyword}
 use Rattle.rule_read.specs.declared.keyword.Keyword.TheVariants as key
-use Rattle.rule_read.specs.declared.form.Fv.{Fv}
+use Rattle.rule_forms.specs.declared.form.Fv.{Fv}
 use Rattle.rule_read.specs.Tokens.{Token, Sign}
-use Rattle.rule_read.specs.Forms.{Expression, Expressions, none, more, Value_of, Union_of}
-use Rattle.rule_read.specs.Forms.{Intersect_of, Complement_of, keyword, in_parentheses, in_brackets}
-use Rattle.rule_read.specs.Forms.{fv_tokens, expression_tokens, row_tokens}
-use Rattle.rule_read.specs.Sound.{AllOf, SomeOf, IsSoundFv, IsSoundExpression, AreSoundMembers}
-use Rattle.rule_read.specs.Sound.{AreSoundOthers}
+use Rattle.rule_forms.specs.Forms.{Expression, Expressions, none, more, Value_of, Union_of}
+use Rattle.rule_forms.specs.Forms.{Intersect_of, Complement_of, expressions}
+use Rattle.rule_read.specs.FormTokens.{keyword, in_parentheses, in_brackets, fv_tokens}
+use Rattle.rule_read.specs.FormTokens.{expression_tokens, row_tokens}
+use Rattle.rule_forms.specs.Sound.{AllOf, SomeOf, IsSoundFv, IsSoundExpression, AreSoundMembers}
+use Rattle.rule_forms.specs.Sound.{AreSoundOthers}
 use Rattle.rule_read.specs.Reading.{Part, bind, mapped, key_at, fv_at, enclosed_at, row_at}
-use Rattle.rule_read.specs.Reading.{expressions, value_at, pair_at, construct_by, construct_at}
-use Rattle.rule_read.specs.Reading.{expression_at}
+use Rattle.rule_read.specs.Reading.{value_at, pair_at, construct_by, construct_at, expression_at}
 use Rattle.rule_read.proofs.Tools.{bind_with, At, Takes, Again, finish, join, behind_takes}
 use Rattle.rule_read.proofs.Tools.{mapped_takes, enclosed_takes, enclosed_again}
 use Rattle.rule_read.proofs.Keys.{key_again, keyed_takes, name_free}

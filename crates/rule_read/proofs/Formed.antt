@@ -3,33 +3,34 @@ use Rattle.std.proofs.Common.{◌≡◌, ℕ, Bool, true, false, cond, eqb, List
 use Rattle.std.proofs.Common.{map, Option, Some, None, refl, sym, ap, subst, ◌∙◌, append_assoc}
 use Rattle.std.proofs.lemmas.List.{append-nil, nil_from_length}
 use Rattle.std.proofs.lemmas.Bool.{eqb-true}
+use Rattle.rule_read.proofs.Tools.{chosen, bind_with, Takes, Again, some_is, finish, join}
+use Rattle.rule_read.proofs.Tools.{behind_takes, word_by_takes, word_takes, word_again}
+use Rattle.rule_read.proofs.Tools.{enclosed_takes, enclosed_again}
 use Rattle.rule_read.specs.declared.token.Mark.TheVariants.{Open, Close, If}
 use Rattle.rule_read.specs.declared.keyword.Keyword.{Keyword}
 use Rattle.rule_read.specs.declared.keyword.Keyword.TheVariants as key
 use Rattle.rule_read.specs.declared.keyword.Kind.TheVariants as kind
-use Rattle.rule_read.specs.declared.form.Decl.{Decl}
-use Rattle.rule_read.specs.declared.form.Atom.{Atom}
-use Rattle.rule_read.specs.declared.form.Fv.{Fv}
-use Rattle.rule_read.specs.declared.form.Body.{Body}
+use Rattle.rule_forms.specs.declared.form.Decl.{Decl}
+use Rattle.rule_forms.specs.declared.form.Atom.{Atom}
+use Rattle.rule_forms.specs.declared.form.Fv.{Fv}
+use Rattle.rule_forms.specs.declared.form.Body.{Body}
 use Rattle.rule_read.specs.Tokens.{Token, Word, Sign}
 use Rattle.rule_read.specs.Words.{is_number, number_of}
-use Rattle.rule_read.specs.Forms.{Expression, PlainForm, Window, Step, From, Queries, Domain, Input}
-use Rattle.rule_read.specs.Forms.{Simple, Static, Derived, Initially, Initiated, Terminated}
-use Rattle.rule_read.specs.Forms.{Happens, HoldsFor, keyword, word_tokens, in_parentheses}
-use Rattle.rule_read.specs.Forms.{in_brackets, decl_tokens, atom_tokens, fv_tokens, body_tokens}
-use Rattle.rule_read.specs.Forms.{expression_tokens, number_tokens}
-use Rattle.rule_read.specs.Sound.{AllOf, SomeOf, IsName, IsConstant, FitsSixteenDigits, IsSoundDecl}
-use Rattle.rule_read.specs.Sound.{IsSoundAtom, IsSoundFv, IsSoundBody, IsSoundExpression}
-use Rattle.rule_read.specs.Sound.{IsSoundForm}
+use Rattle.rule_forms.specs.Forms.{Expression, PlainForm, Window, Step, From, Queries, Domain}
+use Rattle.rule_forms.specs.Forms.{Input, Simple, Static, Derived, Initially, Initiated, Terminated}
+use Rattle.rule_forms.specs.Forms.{Happens, HoldsFor}
+use Rattle.rule_read.specs.FormTokens.{keyword, word_tokens, in_parentheses, in_brackets}
+use Rattle.rule_read.specs.FormTokens.{decl_tokens, atom_tokens, fv_tokens, body_tokens}
+use Rattle.rule_read.specs.FormTokens.{expression_tokens, number_tokens}
+use Rattle.rule_forms.specs.Sound.{AllOf, SomeOf, IsName, IsConstant, FitsSixteenDigits}
+use Rattle.rule_forms.specs.Sound.{IsSoundDecl, IsSoundAtom, IsSoundFv, IsSoundBody}
+use Rattle.rule_forms.specs.Sound.{IsSoundExpression, IsSoundForm}
 use Rattle.rule_read.specs.Grammar.{SpellsNumber, SpellsForm}
 use Rattle.rule_read.specs.Reading.{Part, bind, mapped, tail, key_at, word_at, members_at}
 use Rattle.rule_read.specs.Reading.{enclosed_at, decl_at, atom_at, fv_at, body_at, expression_at}
 use Rattle.rule_read.specs.Reading.{number_at, numbered_at, valued_at, domain_at, conditions_at}
 use Rattle.rule_read.specs.Reading.{rule_at, static_at, form_by, form_at, form_of}
 use Rattle.rule_read.proofs.Numbers.{number_small}
-use Rattle.rule_read.proofs.Tools.{bind_with, Takes, Again, some_is, finish, join, behind_takes}
-use Rattle.rule_read.proofs.Tools.{word_by_takes, word_takes, word_again, enclosed_takes}
-use Rattle.rule_read.proofs.Tools.{enclosed_again}
 use Rattle.rule_read.proofs.Keys.{key_takes, key_again}
 use Rattle.rule_read.proofs.Members.{listed, members_takes, members_again, row_takes, row_again}
 use Rattle.rule_read.proofs.Members.{any_row_takes, any_row_again}
@@ -277,17 +278,13 @@ form_takes ts y e = of_key (key_at ts) refl e
         static_takes (λ x ts s. s) (λ x s. s) ts y h e
     of_key _ h e = absurd cc
 
-guard_ok : {A : Type 0} (b : Bool) (x y : A) → cond b (Some x) None ≡ Some y → (b ≡ true) × (x ≡ y)
-guard_ok true x y e = (refl, cc)
-guard_ok false x y e = absurd cc
-
 -- What has a form is spelled so, and sound.
 pub form_found : (ts : List Token) (f : PlainForm) → form_of ts ≡ Some f → SpellsForm ts f
     × IsSoundForm f
 unfolding form_of
 form_found ts f e =
     bind_with e (λ y ey e1.
-    let g = guard_ok (eqb (length y.1) 0) y.0 f e1 in
+    let g = chosen (eqb (length y.1) 0) y.0 f e1 in
     let P : PlainForm → Type 0 = λ f. SpellsForm ts f × IsSoundForm f in
     subst P g.1 (form_takes ts y ey (nil_from_length y.1 (eqb-true _ _ g.0))))
 

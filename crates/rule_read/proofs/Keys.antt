@@ -11,8 +11,9 @@ use Rattle.rt_base.specs.Kinds.{is_word, is_name, is_constant, is_reserved}
 use Rattle.rule_read.specs.declared.keyword.Keyword.{Keyword}
 use Rattle.rule_read.specs.declared.keyword.Keyword.TheVariants as key
 use Rattle.rule_read.specs.Tokens.{Token, Word, Sign}
-use Rattle.rule_read.specs.Words.{spelled, keywords, keyword_of, is_variable}
-use Rattle.rule_read.specs.Forms.{keyword}
+use Rattle.rule_read.specs.Words.{spelled, keywords, keyword_of}
+use Rattle.rule_forms.specs.Sound.{is_variable}
+use Rattle.rule_read.specs.FormTokens.{keyword}
 use Rattle.rule_read.specs.Reading.{Part, mapped, key_at, tail}
 use Rattle.rule_read.proofs.Tools.{bind_with, At, Takes, finish, some_is}
 

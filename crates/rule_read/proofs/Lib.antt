@@ -2,7 +2,7 @@ pub mod Runs
 pub mod Sentences
 pub mod Letters
 pub mod Lists
-pub mod Trees
+pub mod Depths
 pub mod Numbers
 pub mod Wholes
 pub mod Tools
@@ -19,5 +19,4 @@ pub mod Cuts
 pub mod Digits
 pub mod Written
 pub mod Texts
-pub mod Copies
 pub mod Meant

@@ -3,8 +3,8 @@ use Rattle.std.proofs.Common.{◌≡◌, ℕ, ◌≤◌, ◌<◌, Bool, true, fa
 use Rattle.std.proofs.Common.{◌++◌, length, Option, Some, None, refl, sym, ap, subst, ◌∙◌, arith}
 use Rattle.std.proofs.lemmas.Bool.Decides.{nat_tests}
 use Rattle.rule_read.specs.Sentences.{Sentence, sentences_of, bad_byte_of}
-use Rattle.rule_read.specs.Forms.{PlainForm}
-use Rattle.rule_read.specs.Sound.{AllOf}
+use Rattle.rule_forms.specs.Forms.{PlainForm}
+use Rattle.rule_forms.specs.Sound.{AllOf}
 use Rattle.rule_read.specs.Grammar.{HasSomeForm}
 use Rattle.rule_read.specs.Whole.{Reading, TooLong, BadByte, BadStatement, Statements, Means}
 use Rattle.rule_read.specs.Whole.{formed, forms_of, after_form, unless_bad, reading, longest}

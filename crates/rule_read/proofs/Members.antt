@@ -5,8 +5,8 @@ use Rattle.std.proofs.Common.{length-append}
 use Rattle.rule_read.specs.declared.token.Mark.TheVariants.{Open, Close, OpenList, CloseList, Comma}
 use Rattle.rule_read.specs.declared.keyword.Kind.TheVariants as kind
 use Rattle.rule_read.specs.Tokens.{Token, Sign}
-use Rattle.rule_read.specs.Forms.{commas, word_tokens, in_parentheses, in_brackets, arguments}
-use Rattle.rule_read.specs.Sound.{AllOf, SomeOf, IsConstant}
+use Rattle.rule_read.specs.FormTokens.{commas, word_tokens, in_parentheses, in_brackets, arguments}
+use Rattle.rule_forms.specs.Sound.{AllOf, SomeOf, IsConstant}
 use Rattle.rule_read.specs.Reading.{Part, bind, has, tail, behind, list_at, members_at, row_at}
 use Rattle.rule_read.specs.Reading.{any_row_at, args_at, enclosed_at, word_at}
 use Rattle.rule_read.proofs.Tools.{bind_with, At, Takes, Again, finish, join, has_takes}

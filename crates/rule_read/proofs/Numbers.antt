@@ -11,15 +11,11 @@ use Rattle.std.proofs.lemmas.Str.Parse.{IsNumeralModel, numerals_by_fold, parse_
 use Rattle.std.proofs.lemmas.Str.Parse.{digits_value_short}
 use Rattle.std.proofs.lemmas.List.Elements.{All-nil, All-cons}
 use Rattle.std.proofs.lemmas.Bool.Decides.{nat_tests}
+use Rattle.std.proofs.lemmas.Bool.{and_parts}
 use Rattle.rule_read.specs.Words.{is_number, number_after, number_of}
 
 pub own : IsNumeralModel (λ ds. list_all is_ascii_digit ds ≡ true) number_of
 own = numerals_by_fold _ (search rules) number_after (search rules)
-
-both : (a b : Bool) → (a && b) ≡ true → (a ≡ true) × (b ≡ true)
-both true true e = (refl, refl)
-both true false e = absurd cc
-both false b e = absurd cc
 
 pub parts : (ds : List ℕ) → is_number ds ≡ true → (list_all is_ascii_digit ds ≡ true)
     × (length ds < 17) × (0 < length ds)
@@ -28,7 +24,7 @@ parts ds e = grind (arith, nat_tests)
 digits_low : (ds : List ℕ) → list_all is_ascii_digit ds ≡ true → All (λ b. b < 128) ds
 digits_low [] e = All-nil (λ b. b < 128)
 digits_low (d ∷ ds) e =
-    let p = both (is_ascii_digit d) (list_all is_ascii_digit ds) e in
+    let p = and_parts (is_ascii_digit d) (list_all is_ascii_digit ds) e in
     All-cons (λ b. b < 128) d ds (grind (arith, nat_tests, p.0)) (digits_low ds p.1)
 
 pub digits_are_text : (ds : List ℕ) → is_number ds ≡ true → IsUtf8 ds

@@ -6,20 +6,19 @@ use Rattle.rule_read.specs.declared.token.Mark.TheVariants.{Open, Close, Equals,
 use Rattle.rule_read.specs.declared.keyword.Keyword.{Keyword}
 use Rattle.rule_read.specs.declared.keyword.Keyword.TheVariants as key
 use Rattle.rule_read.specs.declared.keyword.Kind.TheVariants as kind
-use Rattle.rule_read.specs.declared.form.Decl.{Decl}
-use Rattle.rule_read.specs.declared.form.Term.TheVariants as term
-use Rattle.rule_read.specs.declared.form.Atom.{Atom}
-use Rattle.rule_read.specs.declared.form.Fv.{Fv}
-use Rattle.rule_read.specs.declared.form.EventText.{EventText}
-use Rattle.rule_read.specs.declared.form.EventText.TheVariants as event
-use Rattle.rule_read.specs.declared.form.Body.{Body}
-use Rattle.rule_read.specs.declared.form.Body.TheVariants as body
+use Rattle.rule_forms.specs.declared.form.Decl.{Decl}
+use Rattle.rule_forms.specs.declared.form.Term.TheVariants as term
+use Rattle.rule_forms.specs.declared.form.Atom.{Atom}
+use Rattle.rule_forms.specs.declared.form.Fv.{Fv}
+use Rattle.rule_forms.specs.declared.form.EventText.{EventText}
+use Rattle.rule_forms.specs.declared.form.EventText.TheVariants as event
+use Rattle.rule_forms.specs.declared.form.Body.{Body}
+use Rattle.rule_forms.specs.declared.form.Body.TheVariants as body
 use Rattle.rule_read.specs.Tokens.{Token, Word, Sign}
-use Rattle.rule_read.specs.Words.{is_variable}
-use Rattle.rule_read.specs.Forms.{word_tokens, in_parentheses, decl_tokens, term_tokens}
-use Rattle.rule_read.specs.Forms.{atom_tokens, fv_tokens, event_tokens, unless, body_tokens}
-use Rattle.rule_read.specs.Sound.{IsName, IsSoundDecl, IsSoundTerm, IsSoundAtom, IsSoundFv}
-use Rattle.rule_read.specs.Sound.{IsSoundEvent, IsSoundBody}
+use Rattle.rule_forms.specs.Sound.{is_variable, IsName, IsSoundDecl, IsSoundTerm, IsSoundAtom}
+use Rattle.rule_forms.specs.Sound.{IsSoundFv, IsSoundEvent, IsSoundBody}
+use Rattle.rule_read.specs.FormTokens.{word_tokens, in_parentheses, decl_tokens, term_tokens}
+use Rattle.rule_read.specs.FormTokens.{atom_tokens, fv_tokens, event_tokens, unless, body_tokens}
 use Rattle.rule_read.specs.Reading.{bind, mapped, has, tail, key_at, word_at, enclosed_at, decl_at}
 use Rattle.rule_read.specs.Reading.{term_at, atom_at, fv_at, event_by, event_at, condition_by}
 use Rattle.rule_read.specs.Reading.{condition_at, unequal_at, body_by, body_at}

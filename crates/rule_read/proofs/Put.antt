@@ -6,7 +6,7 @@ use Rattle.rule_read.specs.declared.token.Token.{Token as Code}
 use Rattle.rule_read.specs.declared.token.Mark.TheVariants.{Comma}
 use Rattle.rule_read.specs.Tokens.{Token, Sign}
 use Rattle.rule_read.specs.Lexed.{token, tokens}
-use Rattle.rule_read.specs.Forms.{commas}
+use Rattle.rule_read.specs.FormTokens.{commas}
 use Rattle.rule_read.specs.Printed.{comma_at}
 
 pub put_one : (before : List Code) (t : Code) → tokens (before ++ t ∷ []) ≡ tokens before ++ token

@@ -2,13 +2,13 @@
 use Rattle.std.proofs.Common.{◌≡◌, ℕ, ◌≤◌, ◌<◌, ◌^◌, Bool, true, false, cond, List, [], ◌∷◌, length}
 use Rattle.std.proofs.Common.{map, Option, Some, None, Ok, Err, refl, sym, ap, subst, ◌∙◌, arith}
 use Rattle.std.specs.Global.{Vec}
-use Rattle.rule_read.specs.declared.syntax.Statement.{Statement}
-use Rattle.rule_read.specs.declared.syntax.Syntax.{Syntax}
-use Rattle.rule_read.specs.declared.syntax.ReadRefused.{ReadRefused}
-use Rattle.rule_read.specs.declared.syntax.ReadRefused.TheVariants as refused
+use Rattle.rule_forms.specs.declared.syntax.Statement.{Statement}
+use Rattle.rule_forms.specs.declared.syntax.Syntax.{Syntax}
+use Rattle.rule_read.specs.declared.refused.ReadRefused.{ReadRefused}
+use Rattle.rule_read.specs.declared.refused.ReadRefused.TheVariants as refused
 use Rattle.rule_read.specs.Sentences.{Sentence, sentences_of}
-use Rattle.rule_read.specs.Forms.{PlainForm, PlainStatement, plain}
-use Rattle.rule_read.specs.Sound.{AllOf, IsSoundStatement, IsSound}
+use Rattle.rule_forms.specs.Forms.{PlainForm, PlainStatement, plain}
+use Rattle.rule_forms.specs.Sound.{AllOf, IsSoundStatement, IsSound}
 use Rattle.rule_read.specs.Grammar.{HasForm, HasSomeForm, SpellEach, Spells, IsFirstUnformed}
 use Rattle.rule_read.specs.Reading.{form_of}
 use Rattle.rule_read.specs.Whole.{Reading, TooLong, BadByte, BadStatement, Statements, formed}

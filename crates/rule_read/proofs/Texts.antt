@@ -9,17 +9,19 @@ use Rattle.std.proofs.lemmas.Bool.Decides.{nat_tests}
 use Rattle.std.proofs.lemmas.List.Elements.{All-nil, All-cons, All-append, All-weaker}
 use Rattle.std.proofs.lemmas.List.Sums.{AllPass-from_list_all}
 use Rattle.rt_base.specs.Kinds.{is_letter}
+use Rattle.rt_base.proofs.Letters.{letter_low}
 use Rattle.rule_read.specs.declared.token.Mark.{Mark}
 use Rattle.rule_read.specs.declared.token.Mark.TheVariants.{Open, Close, OpenList, CloseList, Comma}
 use Rattle.rule_read.specs.declared.token.Mark.TheVariants.{Equals, If, Differs, Stray}
 use Rattle.rule_read.specs.declared.keyword.Keyword.TheVariants as key
-use Rattle.rule_read.specs.declared.syntax.Statement.{Statement}
+use Rattle.rule_forms.specs.declared.syntax.Statement.{Statement}
 use Rattle.rule_read.specs.Tokens.{Token, Word, Sign, Dot, Placed, put, cut, pieces}
 use Rattle.rule_read.specs.Sentences.{lead, sentences, first_bad}
-use Rattle.rule_read.specs.Forms.{PlainForm, Window, Step, From, Queries, Domain, Input, Simple}
-use Rattle.rule_read.specs.Forms.{Static, Derived, Initially, Initiated, Terminated, Happens}
-use Rattle.rule_read.specs.Forms.{HoldsFor, plain_form, form_tokens}
-use Rattle.rule_read.specs.Sound.{AllOf, IsSoundForm, IsSoundStatement}
+use Rattle.rule_forms.specs.Forms.{PlainForm, Window, Step, From, Queries, Domain, Input, Simple}
+use Rattle.rule_forms.specs.Forms.{Static, Derived, Initially, Initiated, Terminated, Happens}
+use Rattle.rule_forms.specs.Forms.{HoldsFor, plain_form}
+use Rattle.rule_read.specs.FormTokens.{form_tokens}
+use Rattle.rule_forms.specs.Sound.{AllOf, IsSoundForm, IsSoundStatement}
 use Rattle.rule_read.specs.Grammar.{SpellsForm, SpellEach, Spells}
 use Rattle.rule_read.specs.Canonical.{mark_bytes, token_bytes, space_between, line_of, text_of}
 use Rattle.rule_read.specs.Canonical.{on_lines}
@@ -105,9 +107,6 @@ low b bs h rest = All-cons (λ b. b < 128) b bs h rest
 
 none_low : AllLow []
 none_low = All-nil (λ b. b < 128)
-
-letter_low : (b : ℕ) → is_letter b ≡ true → b < 128
-letter_low b h = grind (arith, nat_tests)
 
 mark_low : (m : Mark) → AllLow (mark_bytes m)
 mark_low Open = low 40 [] (omega arith) none_low

@@ -9,7 +9,7 @@ use Rattle.rule_read.specs.declared.token.Mark.TheVariants.{Equals, If, Differs,
 use Rattle.rule_read.specs.declared.keyword.Kind.{Kind}
 use Rattle.rule_read.specs.Tokens.{Token, Word, Sign}
 use Rattle.rule_read.specs.Words.{is_of}
-use Rattle.rule_read.specs.Forms.{word_tokens, in_parentheses}
+use Rattle.rule_read.specs.FormTokens.{word_tokens, in_parentheses}
 use Rattle.rule_read.specs.Reading.{Part, bind, mapped, has, tail, behind, word_by, word_at}
 use Rattle.rule_read.specs.Reading.{enclosed_at, same_mark, number_of_mark}
 

@@ -1,14 +1,15 @@
 -- The tokens of an expression by those of its members.
 use Rattle.std.proofs.Common.{◌≡◌, List, [], ◌∷◌, ◌++◌, map, refl, ap, sym, ◌∙◌, append_assoc}
 use Rattle.std.specs.Global.{Vec, Box}
-use Rattle.rule_read.specs.declared.form.Tree.{Tree, Union, Union', Intersect, Intersect'}
-use Rattle.rule_read.specs.declared.form.Tree.{Complement, Complement', Row_of-Tree, end_of-Tree}
-use Rattle.rule_read.specs.declared.form.Tree.{more_of-Tree, items-the_row-Tree}
-use Rattle.rule_read.specs.declared.form.Tree.{items_hidden-the_row-Tree-0}
+use Rattle.rule_forms.specs.declared.form.Tree.{Tree, Union, Union', Intersect, Intersect'}
+use Rattle.rule_forms.specs.declared.form.Tree.{Complement, Complement', Row_of-Tree, end_of-Tree}
+use Rattle.rule_forms.specs.declared.form.Tree.{more_of-Tree, items-the_row-Tree}
+use Rattle.rule_forms.specs.declared.form.Tree.{items_hidden-the_row-Tree-0}
 use Rattle.rule_read.specs.declared.keyword.Keyword.TheVariants as key
 use Rattle.rule_read.specs.declared.token.Mark.TheVariants.{Comma, Open, Close}
 use Rattle.rule_read.specs.Tokens.{Token, Sign}
-use Rattle.rule_read.specs.Forms.{plain_row, row_tokens, keyword, in_parentheses, in_brackets}
+use Rattle.rule_forms.specs.Forms.{plain_row}
+use Rattle.rule_read.specs.FormTokens.{row_tokens, keyword, in_parentheses, in_brackets}
 use Rattle.rule_read.specs.Printed.{tree_tokens}
 
 row_is : (n : _) (row : Row_of-Tree n) → row_tokens (plain_row row) ≡ map tree_tokens

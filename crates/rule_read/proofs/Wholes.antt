@@ -4,12 +4,12 @@ use Rattle.std.proofs.Common.{length, ◌<◌, ◌≤◌, nat_lt, arith, Ok, Err
 use Rattle.std.proofs.Common.{[], ◌∷◌, ◌++◌, map, Some, None, refl, sym, ap, ◌∙◌, append_assoc}
 use Rattle.std.proofs.lemmas.List.{append-nil, map-append}
 use Rattle.std.specs.Global.{Vec}
-use Rattle.rule_read.specs.declared.syntax.Statement.{Statement}
-use Rattle.rule_read.specs.declared.syntax.ReadRefused.{ReadRefused}
-use Rattle.rule_read.specs.declared.syntax.ReadRefused.TheVariants as refused
+use Rattle.rule_forms.specs.declared.syntax.Statement.{Statement}
+use Rattle.rule_read.specs.declared.refused.ReadRefused.{ReadRefused}
+use Rattle.rule_read.specs.declared.refused.ReadRefused.TheVariants as refused
 use Rattle.rule_read.specs.Tokens.{Token}
 use Rattle.rule_read.specs.Sentences.{Sentence, lead, sentences_of, bad_byte_of}
-use Rattle.rule_read.specs.Forms.{PlainForm, PlainStatement, plain}
+use Rattle.rule_forms.specs.Forms.{PlainForm, PlainStatement, plain}
 use Rattle.rule_read.specs.Reading.{form_of}
 use Rattle.rule_read.specs.Whole.{Reading, TooLong, BadByte, BadStatement, Statements, forms_of}
 use Rattle.rule_read.specs.Whole.{after_first, after_form, longest, reading, Answers}

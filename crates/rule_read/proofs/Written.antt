@@ -3,31 +3,33 @@ use Rattle.std.proofs.Common.{◌≡◌, ℕ, zero, suc, ◌<◌, ◌^◌, Bool,
 use Rattle.std.proofs.Common.{◌++◌, map, decimal, refl, arith}
 use Rattle.std.proofs.lemmas.Bool.Decides.{nat_tests}
 use Rattle.rt_base.specs.Kinds.{is_word, is_reserved}
+use Rattle.std.proofs.lemmas.Bool.{and_parts}
+use Rattle.rule_read.proofs.Members.{some_all}
 use Rattle.rule_read.specs.declared.token.Mark.TheVariants.{Close, CloseList, Comma, Equals, If}
 use Rattle.rule_read.specs.declared.keyword.Keyword.{Keyword}
 use Rattle.rule_read.specs.declared.keyword.Keyword.TheVariants as key
-use Rattle.rule_read.specs.declared.form.Decl.{Decl}
-use Rattle.rule_read.specs.declared.form.Term.{Term}
-use Rattle.rule_read.specs.declared.form.Term.TheVariants as term
-use Rattle.rule_read.specs.declared.form.Atom.{Atom}
-use Rattle.rule_read.specs.declared.form.Fv.{Fv}
-use Rattle.rule_read.specs.declared.form.EventText.{EventText}
-use Rattle.rule_read.specs.declared.form.EventText.TheVariants as event
-use Rattle.rule_read.specs.declared.form.Body.{Body}
-use Rattle.rule_read.specs.declared.form.Body.TheVariants as body
+use Rattle.rule_forms.specs.declared.form.Decl.{Decl}
+use Rattle.rule_forms.specs.declared.form.Term.{Term}
+use Rattle.rule_forms.specs.declared.form.Term.TheVariants as term
+use Rattle.rule_forms.specs.declared.form.Atom.{Atom}
+use Rattle.rule_forms.specs.declared.form.Fv.{Fv}
+use Rattle.rule_forms.specs.declared.form.EventText.{EventText}
+use Rattle.rule_forms.specs.declared.form.EventText.TheVariants as event
+use Rattle.rule_forms.specs.declared.form.Body.{Body}
+use Rattle.rule_forms.specs.declared.form.Body.TheVariants as body
 use Rattle.rule_read.specs.Tokens.{Token, Word, Sign}
-use Rattle.rule_read.specs.Forms.{Expression, Expressions, Value_of, Union_of, Intersect_of}
-use Rattle.rule_read.specs.Forms.{Complement_of, none, more, PlainForm, Window, Step, From, Queries}
-use Rattle.rule_read.specs.Forms.{Domain, Input, Simple, Static, Derived, Initially, Initiated}
-use Rattle.rule_read.specs.Forms.{Terminated, Happens, HoldsFor, keyword, word_tokens, commas}
-use Rattle.rule_read.specs.Forms.{in_parentheses, in_brackets, arguments, decl_tokens, term_tokens}
-use Rattle.rule_read.specs.Forms.{atom_tokens, fv_tokens, event_tokens, unless, body_tokens}
-use Rattle.rule_read.specs.Forms.{expression_tokens, row_tokens, number_tokens, rule_tokens}
-use Rattle.rule_read.specs.Forms.{form_tokens}
-use Rattle.rule_read.specs.Sound.{AllOf, SomeOf, IsName, IsConstant, IsVariable, IsSoundDecl}
-use Rattle.rule_read.specs.Sound.{IsSoundTerm, IsSoundAtom, IsSoundFv, IsSoundEvent, IsSoundBody}
-use Rattle.rule_read.specs.Sound.{IsSoundExpression, AreSoundMembers, AreSoundOthers, IsSoundForm}
-use Rattle.rule_read.proofs.Cuts.{IsWritten, both}
+use Rattle.rule_forms.specs.Forms.{Expression, Expressions, Value_of, Union_of, Intersect_of}
+use Rattle.rule_forms.specs.Forms.{Complement_of, none, more, PlainForm, Window, Step, From}
+use Rattle.rule_forms.specs.Forms.{Queries, Domain, Input, Simple, Static, Derived, Initially}
+use Rattle.rule_forms.specs.Forms.{Initiated, Terminated, Happens, HoldsFor}
+use Rattle.rule_read.specs.FormTokens.{keyword, word_tokens, commas, in_parentheses, in_brackets}
+use Rattle.rule_read.specs.FormTokens.{arguments, decl_tokens, term_tokens, atom_tokens, fv_tokens}
+use Rattle.rule_read.specs.FormTokens.{event_tokens, unless, body_tokens, expression_tokens}
+use Rattle.rule_read.specs.FormTokens.{row_tokens, number_tokens, rule_tokens, form_tokens}
+use Rattle.rule_forms.specs.Sound.{AllOf, SomeOf, IsName, IsConstant, IsVariable, IsSoundDecl}
+use Rattle.rule_forms.specs.Sound.{IsSoundTerm, IsSoundAtom, IsSoundFv, IsSoundEvent, IsSoundBody}
+use Rattle.rule_forms.specs.Sound.{IsSoundExpression, AreSoundMembers, AreSoundOthers, IsSoundForm}
+use Rattle.rule_read.proofs.Cuts.{IsWritten}
 use Rattle.rule_read.proofs.Digits.{digits_are_letters}
 
 abbrev pub AreWritten : List Token → Type 0
@@ -65,10 +67,6 @@ each : {A : Type 0} (P : A → Type 0) (toks : A → List Token)
 each P toks one [] h = tt
 each P toks one (x ∷ xs) h = (one x h.0, each P toks one xs h.1)
 
-all_of_some : {A : Type 0} (P : A → Type 0) (xs : List A) → SomeOf P xs → AllOf P xs
-all_of_some P [] h = absurd h
-all_of_some P (x ∷ xs) h = h
-
 -- ---- words
 
 word_written : (kind : ℕ → Bool) (w : List ℕ) → is_word kind w ≡ true → IsWritten (Word w)
@@ -76,7 +74,7 @@ word_written kind [] h = absurd cc
 word_written kind (b ∷ w) h = (grind (arith, nat_tests), omega arith)
 
 name_written : (w : List ℕ) → IsName w → IsWritten (Word w)
-name_written w h = word_written _ w (both _ (not (is_reserved w)) h).0
+name_written w h = word_written _ w (and_parts _ (not (is_reserved w)) h).0
 
 constant_written : (w : List ℕ) → IsConstant w → IsWritten (Word w)
 constant_written w h = word_written _ w h
@@ -174,7 +172,7 @@ body_written (body.Unequal x y) h = (variable_written x h.0, (tt, (variable_writ
 bodies_written : (bodies : List Body) → SomeOf IsSoundBody bodies
     → AreWritten (commas (map body_tokens bodies))
 bodies_written bodies h = commas_written (map body_tokens bodies) (each IsSoundBody body_tokens
-    body_written bodies (all_of_some IsSoundBody bodies h))
+    body_written bodies (some_all IsSoundBody bodies h))
 
 -- ---- expressions
 
@@ -236,7 +234,7 @@ valued_written k decl values h v = (
   key_written k,
   beside (decl_tokens decl) (in_brackets (map word_tokens values))
       (decl_written decl h) (row_written IsConstant constant_written values
-      (all_of_some IsConstant values v)),
+      (some_all IsConstant values v)),
 )
 
 rule_written : (k : Keyword) (head behind : List Token) → AreWritten head → AreWritten behind

@@ -6,7 +6,8 @@ use Rattle.rule_read.specs.declared.token.Mark.{Mark}
 use Rattle.rule_read.specs.declared.token.Mark.TheVariants.{Open, Close, OpenList, CloseList, Comma}
 use Rattle.rule_read.specs.declared.token.Mark.TheVariants.{Equals, If, Differs, Stray}
 use Rattle.rule_read.specs.Tokens.{Token, Word, Sign}
-use Rattle.rule_read.specs.Forms.{PlainForm, PlainStatement, form_tokens}
+use Rattle.rule_forms.specs.Forms.{PlainForm, PlainStatement}
+use Rattle.rule_read.specs.FormTokens.{form_tokens}
 
 -- (a stray mark stands in no form)
 abbrev pub mark_bytes : Mark → List ℕ

@@ -3,17 +3,17 @@ use Rattle.std.specs.Prelude.{◌≡◌, ℕ, true, false, List, [], ◌∷◌, 
 use Rattle.std.specs.Fmt.{digits}
 use Rattle.rt_base.specs.Kinds.{reserved}
 use Rattle.rule_read.specs.declared.token.Mark.TheVariants.{Stray}
-use Rattle.rule_read.specs.declared.form.Term.TheVariants as term
-use Rattle.rule_read.specs.declared.form.Atom.{Atom}
-use Rattle.rule_read.specs.declared.form.Fv.{Fv}
-use Rattle.rule_read.specs.declared.form.EventText.TheVariants as event
-use Rattle.rule_read.specs.declared.form.Body.TheVariants as body
+use Rattle.rule_forms.specs.declared.form.Term.TheVariants as term
+use Rattle.rule_forms.specs.declared.form.Atom.{Atom}
+use Rattle.rule_forms.specs.declared.form.Fv.{Fv}
+use Rattle.rule_forms.specs.declared.form.EventText.TheVariants as event
+use Rattle.rule_forms.specs.declared.form.Body.TheVariants as body
 use Rattle.rule_read.specs.Bytes.{class_of}
 use Rattle.rule_read.specs.Tokens.{Token, Word, Sign, Said, Dot, Bad, put, cut, pieces}
 use Rattle.rule_read.specs.Sentences.{sentences, first_bad, sentences_of}
 use Rattle.rule_read.specs.Words.{spelled, keywords, keyword_of}
-use Rattle.rule_read.specs.Forms.{PlainForm, Window, Domain, Input, Simple, Initiated, HoldsFor}
-use Rattle.rule_read.specs.Forms.{Value_of, Union_of, none, more}
+use Rattle.rule_forms.specs.Forms.{PlainForm, Window, Domain, Input, Simple, Initiated, HoldsFor}
+use Rattle.rule_forms.specs.Forms.{Value_of, Union_of, none, more}
 use Rattle.rule_read.specs.Canonical.{line_of, text_of, on_lines}
 use Rattle.rule_read.specs.Reading.{bind, mapped, enclosed_at, row_at, any_row_at, args_at, decl_at}
 use Rattle.rule_read.specs.Reading.{term_at, atom_at, fv_at, event_at, condition_at, unequal_at}

@@ -5,9 +5,9 @@ use Rattle.rule_read.specs.declared.keyword.Keyword.TheVariants as key
 use Rattle.rule_read.specs.Tokens.{Token}
 use Rattle.rule_read.specs.Sentences.{Sentence, sentences_of, bad_byte_of}
 use Rattle.rule_read.specs.Words.{is_number, number_of}
-use Rattle.rule_read.specs.Forms.{PlainForm, PlainStatement, Window, Step, From, Queries}
-use Rattle.rule_read.specs.Forms.{form_tokens, number_tokens}
-use Rattle.rule_read.specs.Sound.{AllOf, IsSoundForm}
+use Rattle.rule_forms.specs.Forms.{PlainForm, PlainStatement, Window, Step, From, Queries}
+use Rattle.rule_read.specs.FormTokens.{form_tokens, number_tokens}
+use Rattle.rule_forms.specs.Sound.{AllOf, IsSoundForm}
 
 -- digits of the number, leading zeros or not, in a statement of this word
 abbrev pub SpellsNumber : Keyword → ℕ → List Token → Type 0

@@ -1,9 +1,10 @@
+pub use Rattle.rule_forms.specs.Forms
+pub use Rattle.rule_forms.specs.Sound
 pub mod Bytes
 pub mod Tokens
 pub mod Sentences
 pub mod Words
-pub mod Forms
-pub mod Sound
+pub mod FormTokens
 pub mod Grammar
 pub mod Canonical
 pub mod Printed

@@ -1,9 +1,10 @@
 -- What the parts of the printer put.
 use Rattle.std.specs.Prelude.{ℕ, zero, suc, List, [], ◌∷◌, if◌then◌else◌}
-use Rattle.rule_read.specs.declared.form.Tree.{Tree}
+use Rattle.rule_forms.specs.declared.form.Tree.{Tree}
 use Rattle.rule_read.specs.declared.token.Mark.TheVariants.{Comma}
 use Rattle.rule_read.specs.Tokens.{Token, Sign}
-use Rattle.rule_read.specs.Forms.{plain_tree, expression_tokens}
+use Rattle.rule_forms.specs.Forms.{plain_tree}
+use Rattle.rule_read.specs.FormTokens.{expression_tokens}
 use Rattle.rule_read.specs.Canonical.{space_between}
 
 abbrev pub tree_tokens : Tree → List Token

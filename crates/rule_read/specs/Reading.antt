@@ -8,24 +8,25 @@ use Rattle.rule_read.specs.declared.keyword.Keyword.{Keyword}
 use Rattle.rule_read.specs.declared.keyword.Keyword.TheVariants as key
 use Rattle.rule_read.specs.declared.keyword.Kind.{Kind}
 use Rattle.rule_read.specs.declared.keyword.Kind.TheVariants as kind
-use Rattle.rule_read.specs.declared.form.Decl.{Decl}
-use Rattle.rule_read.specs.declared.form.Term.{Term}
-use Rattle.rule_read.specs.declared.form.Term.TheVariants as term
-use Rattle.rule_read.specs.declared.form.Atom.{Atom}
-use Rattle.rule_read.specs.declared.form.Fv.{Fv}
-use Rattle.rule_read.specs.declared.form.EventText.{EventText}
-use Rattle.rule_read.specs.declared.form.EventText.TheVariants as event
-use Rattle.rule_read.specs.declared.form.Body.{Body}
-use Rattle.rule_read.specs.declared.form.Body.TheVariants as body
+use Rattle.rule_forms.specs.declared.form.Decl.{Decl}
+use Rattle.rule_forms.specs.declared.form.Term.{Term}
+use Rattle.rule_forms.specs.declared.form.Term.TheVariants as term
+use Rattle.rule_forms.specs.declared.form.Atom.{Atom}
+use Rattle.rule_forms.specs.declared.form.Fv.{Fv}
+use Rattle.rule_forms.specs.declared.form.EventText.{EventText}
+use Rattle.rule_forms.specs.declared.form.EventText.TheVariants as event
+use Rattle.rule_forms.specs.declared.form.Body.{Body}
+use Rattle.rule_forms.specs.declared.form.Body.TheVariants as body
 use Rattle.rule_read.specs.declared.stop.Stop.{Stop}
 use Rattle.rule_read.specs.declared.stop.Stop.TheVariants.{NoForm, OutOfMemory}
 use Rattle.rt_base.specs.Kinds.{is_constant}
 use Rattle.rule_read.specs.Tokens.{Token, Word, Sign}
-use Rattle.rule_read.specs.Words.{keyword_of, is_variable, is_of, is_number, number_of}
-use Rattle.rule_read.specs.Forms.{Expression, Expressions, none, more, Value_of, Union_of}
-use Rattle.rule_read.specs.Forms.{Intersect_of, Complement_of, PlainForm, Window, Step, From}
-use Rattle.rule_read.specs.Forms.{Queries, Domain, Input, Simple, Static, Derived, Initially}
-use Rattle.rule_read.specs.Forms.{Initiated, Terminated, Happens, HoldsFor}
+use Rattle.rule_read.specs.Words.{keyword_of, is_of, is_number, number_of}
+use Rattle.rule_forms.specs.Sound.{is_variable}
+use Rattle.rule_forms.specs.Forms.{expressions, Expression, Expressions, none, more, Value_of}
+use Rattle.rule_forms.specs.Forms.{Union_of, Intersect_of, Complement_of, PlainForm, Window, Step}
+use Rattle.rule_forms.specs.Forms.{From, Queries, Domain, Input, Simple, Static, Derived, Initially}
+use Rattle.rule_forms.specs.Forms.{Initiated, Terminated, Happens, HoldsFor}
 
 -- what reads a value at the front of some tokens
 abbrev pub Part : Type 0 → Type 0
@@ -200,10 +201,6 @@ unfoldable pub body_at : Part Body
 body_at ts = body_by (key_at ts) ts
 
 -- ---- expressions
-
-abbrev pub expressions : List Expression → Expressions
-expressions [] = none
-expressions (e ∷ es) = more e (expressions es)
 
 abbrev pub value_at : Part Expression
 value_at ts = mapped Value_of fv_at ts

@@ -1,11 +1,11 @@
 -- What reading the statements of a text that is not too long gives.
 use Rattle.std.specs.Prelude.{◌≡◌, ℕ, ◌≤◌, List, length, map, None, Some, Result, Ok, Err}
 use Rattle.std.specs.Global.{Vec}
-use Rattle.rule_read.specs.declared.syntax.Statement.{Statement}
-use Rattle.rule_read.specs.declared.syntax.ReadRefused.{ReadRefused}
-use Rattle.rule_read.specs.declared.syntax.ReadRefused.TheVariants as refused
+use Rattle.rule_forms.specs.declared.syntax.Statement.{Statement}
+use Rattle.rule_read.specs.declared.refused.ReadRefused.{ReadRefused}
+use Rattle.rule_read.specs.declared.refused.ReadRefused.TheVariants as refused
 use Rattle.rule_read.specs.Sentences.{sentences_of, bad_byte_of}
-use Rattle.rule_read.specs.Forms.{plain}
+use Rattle.rule_forms.specs.Forms.{plain}
 use Rattle.rule_read.specs.Whole.{forms_of, BadStatement, Statements}
 
 -- the same as Answers, part by part, and no more statements than bytes

@@ -1,11 +1,11 @@
 -- What a whole text reads as.
 use Rattle.std.specs.Prelude.{◌≡◌, ◌≤◌, ◌<◌, ℕ, nat_lt, List, [], ◌∷◌, ◌++◌, length, map, Option}
 use Rattle.std.specs.Prelude.{Some, None, Result, Ok, Err, if◌then◌else◌}
-use Rattle.rule_read.specs.declared.syntax.Syntax.{Syntax}
-use Rattle.rule_read.specs.declared.syntax.ReadRefused.{ReadRefused}
-use Rattle.rule_read.specs.declared.syntax.ReadRefused.TheVariants as refused
+use Rattle.rule_forms.specs.declared.syntax.Syntax.{Syntax}
+use Rattle.rule_read.specs.declared.refused.ReadRefused.{ReadRefused}
+use Rattle.rule_read.specs.declared.refused.ReadRefused.TheVariants as refused
 use Rattle.rule_read.specs.Sentences.{Sentence, sentences_of, bad_byte_of}
-use Rattle.rule_read.specs.Forms.{PlainForm, PlainStatement, plain}
+use Rattle.rule_forms.specs.Forms.{PlainForm, PlainStatement, plain}
 use Rattle.rule_read.specs.Grammar.{Spells, IsFirstUnformed}
 use Rattle.rule_read.specs.Reading.{form_of}
 

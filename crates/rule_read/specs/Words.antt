@@ -5,6 +5,7 @@ use Rattle.std.specs.Str.{bytes_eq}
 use Rattle.std.specs.List.{list_all}
 use Rattle.std.specs.Char.{is_ascii_uppercase, is_ascii_digit}
 use Rattle.rt_base.specs.Kinds.{is_word, is_name, is_constant}
+use Rattle.rule_forms.specs.Sound.{is_variable}
 use Rattle.rule_read.specs.declared.keyword.Keyword.{Keyword}
 use Rattle.rule_read.specs.declared.keyword.Keyword.TheVariants as key
 use Rattle.rule_read.specs.declared.keyword.Kind.{Kind}
@@ -45,9 +46,6 @@ keywords =
 -- the reserved word that a word is
 unfoldable pub keyword_of : List ℕ → Option Keyword
 keyword_of word = find (λ k. bytes_eq (spelled k) word) keywords
-
-abbrev pub is_variable : List ℕ → Bool
-is_variable word = is_word is_ascii_uppercase word
 
 abbrev pub is_of : Kind → List ℕ → Bool
 is_of kind.Name word = is_name word

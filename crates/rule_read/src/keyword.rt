@@ -2,7 +2,8 @@
 ghost use Rattle.std.specs.Prelude.{◌≡◌, true};
 ghost use Rattle.std.specs.List.{list_all};
 ghost use Rattle.rt_base.specs.Kinds.{is_letter, is_constant};
-ghost use Rattle.rule_read.specs.Words.{spelled, keyword_of, is_variable, is_of};
+ghost use Rattle.rule_read.specs.Words.{spelled, keyword_of, is_of};
+ghost use Rattle.rule_forms.specs.Sound.{is_variable};
 
 use crate::token::is_letter;
 use rt_base::is_name;

@@ -1,8 +1,8 @@
 // What the definitions imply.
 ghost use Rattle.std.specs.Prelude.{◌≡◌, ℕ, List};
 ghost use Rattle.rule_read.specs.Tokens.{Token};
-ghost use Rattle.rule_read.specs.Forms.{PlainForm, PlainStatement};
-ghost use Rattle.rule_read.specs.Sound.{IsSoundForm};
+ghost use Rattle.rule_forms.specs.Forms.{PlainForm, PlainStatement};
+ghost use Rattle.rule_forms.specs.Sound.{IsSoundForm};
 ghost use Rattle.rule_read.specs.Grammar.{SpellsForm, Spells};
 ghost use Rattle.rule_read.specs.Whole.{Reading, reading, Means};
 

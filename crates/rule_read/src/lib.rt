@@ -5,8 +5,6 @@
 //! where it is at most 1,048,576 bytes long. A text has one reading. It stands on `rt_base` alone.
 #![tactic(auto)]
 
-mod copy;
-mod form;
 mod keyword;
 mod laws;
 mod lexer;
@@ -14,18 +12,20 @@ mod line;
 mod printer;
 mod printing;
 mod reader;
+mod refused;
 mod statement;
 mod stop;
-mod syntax;
 mod text;
 mod token;
 mod tree;
 mod tree_printer;
 
-pub use form::{Atom, Body, Decl, EventText, Form, Fv, Term, Tree};
 pub use laws::{meaning_is_read, one_form, one_reading, reading_means};
 pub use printing::{print, put_form};
-pub use syntax::{ReadRefused, Statement, Syntax};
+pub use refused::ReadRefused;
+pub use rule_forms::{
+    Atom, Body, Decl, EventText, Form, Fv, Statement, Syntax, Term, Tree, atom_of, conditions_of,
+};
 pub use text::read;
 
 #[cfg(test)]

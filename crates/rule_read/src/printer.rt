@@ -2,15 +2,17 @@
 ghost use Rattle.std.specs.Prelude.{◌≡◌, ◌++◌, ◌∷◌, [], OnOk, map};
 ghost use Rattle.rule_read.specs.Tokens.{Word as Letters, Sign};
 ghost use Rattle.rule_read.specs.Lexed.{tokens};
-ghost use Rattle.rule_read.specs.Forms.{commas, arguments, in_brackets, in_parentheses};
-ghost use Rattle.rule_read.specs.Forms.{word_tokens, term_tokens, decl_tokens, atom_tokens};
-ghost use Rattle.rule_read.specs.Forms.{fv_tokens, event_tokens, unless, body_tokens, keyword};
+ghost use Rattle.rule_read.specs.FormTokens.{commas, arguments, in_brackets, in_parentheses};
+ghost use Rattle.rule_read.specs.FormTokens.{word_tokens, term_tokens, decl_tokens, atom_tokens};
+ghost use Rattle.rule_read.specs.FormTokens.{fv_tokens, event_tokens, unless, body_tokens, keyword};
 ghost use Rattle.rule_read.specs.Printed.{comma_at};
+ghost use Rattle.rule_read.specs.declared.keyword.Keyword.TheVariants as key;
+ghost use Rattle.rule_read.specs.declared.token.Mark.TheVariants.{Differs};
 
-use crate::form::{Atom, Body, Decl, EventText, Fv, Term};
 use crate::keyword::{Keyword, text_of};
 use crate::token::{Mark, Token};
 use rt_base::{List, OutOfMemory, Word};
+use rule_forms::{Atom, Body, Decl, EventText, Fv, Term};
 
 #[tactic(auto, using(crate::proofs::Put::put_one))]
 pub(crate) fn put_mark<'a>(out: &mut Vec<Token<'a>>, mark: Mark) -> Result<(), OutOfMemory>
@@ -150,6 +152,16 @@ pub(crate) fn put_held<'a>(out: &mut Vec<Token<'a>>, fv: &'a Fv) -> Result<(), O
     put_mark(out, Mark::Close)
 }
 
+/// An atom in parentheses.
+pub(crate) fn put_head<'a>(out: &mut Vec<Token<'a>>, atom: &'a Atom) -> Result<(), OutOfMemory>
+    ensures { OnOk result (tokens out.new.items ≡ tokens out.old.items ++ in_parentheses
+        (atom_tokens atom.now)) }
+{
+    put_mark(out, Mark::Open)?;
+    put_atom(out, atom)?;
+    put_mark(out, Mark::Close)
+}
+
 fn put_event<'a>(out: &mut Vec<Token<'a>>, event: &'a EventText) -> Result<(), OutOfMemory>
     ensures { OnOk result (tokens out.new.items ≡ tokens out.old.items ++ event_tokens event.now) }
 {
@@ -175,27 +187,53 @@ fn put_unless<'a>(out: &mut Vec<Token<'a>>, positive: bool) -> Result<(), OutOfM
     put_key(out, Keyword::Not)
 }
 
+// An event, asked for in a condition.
+fn put_happens<'a>(
+    out: &mut Vec<Token<'a>>,
+    positive: bool,
+    event: &'a EventText,
+) -> Result<(), OutOfMemory>
+    ensures { OnOk result (tokens out.new.items ≡ tokens out.old.items
+        ++ (unless positive ++ (keyword key.HappensAt ∷ in_parentheses (event_tokens event.now)))) }
+{
+    put_unless(out, positive)?;
+    put_key(out, Keyword::HappensAt)?;
+    put_mark(out, Mark::Open)?;
+    put_event(out, event)?;
+    put_mark(out, Mark::Close)
+}
+
+// A fluent-value, asked for in a condition.
+fn put_holds<'a>(out: &mut Vec<Token<'a>>, positive: bool, fv: &'a Fv) -> Result<(), OutOfMemory>
+    ensures { OnOk result (tokens out.new.items ≡ tokens out.old.items
+        ++ (unless positive ++ (keyword key.HoldsAt ∷ in_parentheses (fv_tokens fv.now)))) }
+{
+    put_unless(out, positive)?;
+    put_key(out, Keyword::HoldsAt)?;
+    put_held(out, fv)
+}
+
+// Two variables that are compared.
+fn put_unequal<'a>(
+    out: &mut Vec<Token<'a>>,
+    one: &'a Word,
+    other: &'a Word,
+) -> Result<(), OutOfMemory>
+    ensures { OnOk result (tokens out.new.items ≡ tokens out.old.items
+        ++ (Letters one.now ∷ Sign Differs ∷ Letters other.now ∷ [])) }
+{
+    put_word(out, one)?;
+    put_mark(out, Mark::Differs)?;
+    put_word(out, other)
+}
+
 fn put_body<'a>(out: &mut Vec<Token<'a>>, body: &'a Body) -> Result<(), OutOfMemory>
     ensures { OnOk result (tokens out.new.items ≡ tokens out.old.items ++ body_tokens body.now) }
 {
     match body {
-        Body::Happens { positive, event } => {
-            put_unless(out, *positive)?;
-            put_key(out, Keyword::HappensAt)?;
-            put_mark(out, Mark::Open)?;
-            put_event(out, event)?;
-            put_mark(out, Mark::Close)
-        }
-        Body::Holds { positive, fv } => {
-            put_unless(out, *positive)?;
-            put_key(out, Keyword::HoldsAt)?;
-            put_held(out, fv)
-        }
-        Body::Unequal(one, other) => {
-            put_word(out, one)?;
-            put_mark(out, Mark::Differs)?;
-            put_word(out, other)
-        }
+        Body::Happens { positive, event } => put_happens(out, *positive, event),
+        Body::Holds { positive, fv } => put_holds(out, *positive, fv),
+        Body::Unequal(one, other) => put_unequal(out, one, other),
     }
 }
 

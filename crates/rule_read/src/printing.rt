@@ -3,30 +3,40 @@ ghost use Rattle.std.specs.Prelude.{◌≡◌, ◌≤◌, ◌++◌, ◌∷◌, l
 ghost use Rattle.std.specs.String.{string_bytes};
 ghost use Rattle.rule_read.specs.declared.keyword.Keyword.TheVariants as key;
 ghost use Rattle.rule_read.specs.Lexed.{tokens};
-ghost use Rattle.rule_read.specs.Forms.{plain_form, keyword, number_tokens, decl_tokens, fv_tokens};
-ghost use Rattle.rule_read.specs.Forms.{atom_tokens, body_tokens, word_tokens, rule_tokens, commas};
-ghost use Rattle.rule_read.specs.Forms.{in_brackets, form_tokens, Domain, Initially, HoldsFor};
-ghost use Rattle.rule_read.specs.Forms.{plain_tree};
-ghost use Rattle.rule_read.specs.Sound.{IsSound};
+ghost use Rattle.rule_forms.specs.Forms.{plain_form, Domain, Initially, HoldsFor, plain_tree};
+ghost use Rattle.rule_read.specs.FormTokens.{keyword, number_tokens, decl_tokens, fv_tokens};
+ghost use Rattle.rule_read.specs.FormTokens.{atom_tokens, body_tokens, word_tokens, rule_tokens};
+ghost use Rattle.rule_read.specs.FormTokens.{commas, in_brackets, form_tokens};
+ghost use Rattle.rule_forms.specs.Sound.{IsSound};
 ghost use Rattle.rule_read.specs.Grammar.{Spells};
 ghost use Rattle.rule_read.specs.Canonical.{text_of, line_of, on_lines};
 ghost use Rattle.rule_read.specs.Whole.{reading, longest, Statements};
 
-use crate::form::{Atom, Body, Decl, Form, Fv, Tree};
 use crate::keyword::{Keyword, text_of};
 use crate::line::put_line;
 use crate::printer::{
-    put_atom, put_bodies, put_decl, put_fv, put_held, put_key, put_mark, put_row, put_word,
+    put_bodies, put_decl, put_head, put_held, put_key, put_mark, put_row, put_word,
 };
-use crate::syntax::{Statement, Syntax};
 use crate::token::{Mark, Token};
 use crate::tree_printer::put_tree;
 use rt_base::{List, OutOfMemory, Word};
+use rule_forms::{Atom, Body, Decl, Form, Fv, Statement, Syntax, Tree};
 use std::alloc::Global;
 
 // All statements share one list of tokens, `line`.
 
 #[tactic(auto, unfolding(crate::specs::Canonical::line_of))]
+fn print_digits(out: &mut Vec<u8>, word: Keyword, digits: &[u8]) -> Result<(), OutOfMemory>
+    ensures { OnOk result (out.new.items ≡ out.old.items ++ line_of
+        (number_tokens word digits.now)) }
+{
+    out.extend_from_slice(text_of(word))?;
+    out.extend_from_slice(b"(")?;
+    out.extend_from_slice(digits)?;
+    out.extend_from_slice(b").\n")?;
+    Ok(())
+}
+
 fn print_number(
     alloc: Global,
     out: &mut Vec<u8>,
@@ -38,11 +48,7 @@ fn print_number(
 {
     // The digits last no longer than this call, so they stand in no list of tokens.
     let digits = number.to_string(alloc)?;
-    out.extend_from_slice(text_of(word))?;
-    out.extend_from_slice(b"(")?;
-    out.extend_from_slice(digits.as_bytes())?;
-    out.extend_from_slice(b").\n")?;
-    Ok(())
+    print_digits(out, word, digits.as_bytes())
 }
 
 fn print_domain<'a>(
@@ -136,9 +142,7 @@ fn print_event_rule<'a>(
 {
     line.clear();
     put_key(line, Keyword::HappensAt)?;
-    put_mark(line, Mark::Open)?;
-    put_atom(line, atom)?;
-    put_mark(line, Mark::Close)?;
+    put_head(line, atom)?;
     put_mark(line, Mark::If)?;
     put_bodies(line, bodies.as_slice())?;
     put_line(out, line.as_slice())

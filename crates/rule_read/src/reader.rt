@@ -7,11 +7,11 @@ ghost use Rattle.rule_read.specs.Reading.{members_at, row_at, args_at, enclosed_
 ghost use Rattle.rule_read.specs.Reading.{decl_at, atom_at, fv_at, event_at, condition_at};
 ghost use Rattle.rule_read.specs.Reading.{unequal_at, body_at};
 
-use crate::form::{Atom, Body, Decl, EventText, Fv, Term};
 use crate::keyword::{Keyword, Kind, reserved};
 use crate::stop::Stop;
 use crate::token::{Mark, Token};
 use rt_base::{List, Word, word_of};
+use rule_forms::{Atom, Body, Decl, EventText, Fv, Term};
 use std::alloc::Global;
 
 /// What is left of a statement.

@@ -5,17 +5,17 @@ ghost use Rattle.std.specs.Char.{is_ascii_digit};
 ghost use Rattle.rule_read.specs.Lexed.{tokens};
 ghost use Rattle.rule_read.specs.Words.{is_number, number_of};
 ghost use Rattle.rule_read.specs.declared.keyword.Kind.TheVariants as kind;
-ghost use Rattle.rule_read.specs.Forms.{plain_form, plain_tree};
+ghost use Rattle.rule_forms.specs.Forms.{plain_form, plain_tree};
 ghost use Rattle.rule_read.specs.Reading.{Reads, Gives, word_at, any_row_at, number_at};
 ghost use Rattle.rule_read.specs.Reading.{numbered_at, valued_at, domain_at, conditions_at};
 ghost use Rattle.rule_read.specs.Reading.{rule_at, static_at, fv_at, atom_at, form_at, form_of};
 
-use crate::form::{Atom, Body, Decl, Form, Fv, Tree};
 use crate::keyword::{Keyword, Kind};
 use crate::reader::{Bodies, Constants, Reader};
 use crate::stop::Stop;
 use crate::token::{Mark, Token};
 use rt_base::{List, Word};
+use rule_forms::{Atom, Body, Decl, Form, Fv, Tree};
 use std::alloc::Global;
 
 fn all_digits(word: &[u8]) -> bool
@@ -163,40 +163,40 @@ impl<'a> Reader<'a> {
         let key = self.key();
         self.pass();
         match key {
-            Some(Keyword::Window) => Ok(Form::Window(self.enclosed_number()?)),
-            Some(Keyword::Step) => Ok(Form::Step(self.enclosed_number()?)),
-            Some(Keyword::From) => Ok(Form::From(self.enclosed_number()?)),
-            Some(Keyword::Queries) => Ok(Form::Queries(self.enclosed_number()?)),
+            Some(Keyword::Window) => self.enclosed_number().map(Form::Window),
+            Some(Keyword::Step) => self.enclosed_number().map(Form::Step),
+            Some(Keyword::From) => self.enclosed_number().map(Form::From),
+            Some(Keyword::Queries) => self.enclosed_number().map(Form::Queries),
             Some(Keyword::Domain) => {
-                let (name, entities) = self.domain()?;
-                Ok(Form::Domain(name, entities))
+                self.domain()
+                    .map(|(name, entities)| Form::Domain(name, entities))
             }
-            Some(Keyword::Input) => Ok(Form::Input(self.decl()?)),
+            Some(Keyword::Input) => self.decl().map(Form::Input),
             Some(Keyword::Simple) => {
-                let (decl, values) = self.valued()?;
-                Ok(Form::Simple(decl, values))
+                self.valued()
+                    .map(|(decl, values)| Form::Simple(decl, values))
             }
             Some(Keyword::Static) => {
-                let (decl, values) = self.valued()?;
-                Ok(Form::Static(decl, values))
+                self.valued()
+                    .map(|(decl, values)| Form::Static(decl, values))
             }
-            Some(Keyword::Derived) => Ok(Form::Derived(self.decl()?)),
-            Some(Keyword::Initially) => Ok(Form::Initially(self.enclosed_fv()?)),
+            Some(Keyword::Derived) => self.decl().map(Form::Derived),
+            Some(Keyword::Initially) => self.enclosed_fv().map(Form::Initially),
             Some(Keyword::InitiatedAt) => {
-                let (fv, bodies) = self.fluent_rule()?;
-                Ok(Form::Initiated(fv, bodies))
+                self.fluent_rule()
+                    .map(|(fv, bodies)| Form::Initiated(fv, bodies))
             }
             Some(Keyword::TerminatedAt) => {
-                let (fv, bodies) = self.fluent_rule()?;
-                Ok(Form::Terminated(fv, bodies))
+                self.fluent_rule()
+                    .map(|(fv, bodies)| Form::Terminated(fv, bodies))
             }
             Some(Keyword::HappensAt) => {
-                let (atom, bodies) = self.event_rule()?;
-                Ok(Form::Happens(atom, bodies))
+                self.event_rule()
+                    .map(|(atom, bodies)| Form::Happens(atom, bodies))
             }
             Some(Keyword::HoldsFor) => {
-                let (fv, tree) = self.static_rule()?;
-                Ok(Form::HoldsFor(fv, tree))
+                self.static_rule()
+                    .map(|(fv, tree)| Form::HoldsFor(fv, tree))
             }
             _ => Err(Stop::NoForm),
         }

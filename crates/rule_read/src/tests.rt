@@ -22,7 +22,8 @@ terminatedAt(on(X)=true) :-
     happensAt(start(idle=true)), % and
     not happensAt(end(on(X)=low)).
 happensAt(seen(X)) :- happensAt(up), holdsAt(on(X)=true).
-holdsFor(idle=true):-relative_complement_all(union_all([on(x)=true,on(2y)=low]),[intersect_all([on(x)=low])]).";
+holdsFor(idle=true):-relative_complement_all(union_all([on(x)=true,on(2y)=low]),\
+    [intersect_all([on(x)=low])]).";
 
 const ALL_FORMS_PRINTED: &str = "window(10).
 step(5).
@@ -39,7 +40,8 @@ initially(on(x)=true).
 initiatedAt(on(X)=true) :- happensAt(near(X, Y)), X \\= Y, not holdsAt(on(2y)=low).
 terminatedAt(on(X)=true) :- happensAt(start(idle=true)), not happensAt(end(on(X)=low)).
 happensAt(seen(X)) :- happensAt(up), holdsAt(on(X)=true).
-holdsFor(idle=true) :- relative_complement_all(union_all([on(x)=true, on(2y)=low]), [intersect_all([on(x)=low])]).
+holdsFor(idle=true) :- relative_complement_all(union_all([on(x)=true, on(2y)=low]), \
+    [intersect_all([on(x)=low])]).
 ";
 
 const VESSEL_RULES: &str = "input enters(vessel, area).

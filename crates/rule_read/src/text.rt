@@ -1,11 +1,11 @@
 // Reading a whole text.
 ghost use Rattle.std.specs.Prelude.{◌≡◌, ◌≤◌, ◌<◌, ℕ, length, map, [], IfOk, Err, None, Some};
 ghost use Rattle.std.specs.Bool.{MatchBool};
-ghost use Rattle.rule_read.specs.declared.syntax.ReadRefused.TheVariants.{TooLong, BadByte};
-ghost use Rattle.rule_read.specs.declared.syntax.ReadRefused.TheVariants.{BadStatement};
+ghost use Rattle.rule_read.specs.declared.refused.ReadRefused.TheVariants.{TooLong, BadByte};
+ghost use Rattle.rule_read.specs.declared.refused.ReadRefused.TheVariants.{BadStatement};
 ghost use Rattle.rule_read.specs.Sentences.{sentences_of, bad_byte_of, lead};
-ghost use Rattle.rule_read.specs.Forms.{plain};
-ghost use Rattle.rule_read.specs.Sound.{IsSound};
+ghost use Rattle.rule_forms.specs.Forms.{plain};
+ghost use Rattle.rule_forms.specs.Sound.{IsSound};
 ghost use Rattle.rule_read.specs.Grammar.{Spells, IsFirstUnformed};
 ghost use Rattle.rule_read.specs.Lexed.{tokens};
 ghost use Rattle.rule_read.specs.Whole.{reading, Answers, forms_of, longest, Statements};
@@ -13,11 +13,12 @@ ghost use Rattle.rule_read.specs.Whole.{BadStatement as Unformed};
 ghost use Rattle.rule_read.specs.Stated.{States};
 
 use crate::lexer::Lexer;
+use crate::refused::ReadRefused;
 use crate::statement::form_given;
 use crate::stop::Stop;
-use crate::syntax::{ReadRefused, Statement, Syntax};
 use crate::token::{Ending, Token};
 use rt_base::List;
+use rule_forms::{Statement, Syntax};
 use std::alloc::Global;
 
 /// No token stands there.

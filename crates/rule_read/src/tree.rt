@@ -1,32 +1,33 @@
 // Reading an expression over intervals.
 ghost use Rattle.std.specs.Prelude.{◌≡◌, map};
 ghost use Rattle.rule_read.specs.Lexed.{tokens};
-ghost use Rattle.rule_read.specs.Forms.{plain_tree, Union_of, Intersect_of, Complement_of};
+ghost use Rattle.rule_forms.specs.Forms.{plain_tree, Union_of, Intersect_of, Complement_of};
+ghost use Rattle.rule_forms.specs.Forms.{expressions};
 ghost use Rattle.rule_read.specs.Reading.{Reads, members_at, row_at, pair_at, enclosed_at};
-ghost use Rattle.rule_read.specs.Reading.{expressions, construct_at, expression_at};
+ghost use Rattle.rule_read.specs.Reading.{construct_at, expression_at};
 
-use crate::form::Tree;
 use crate::keyword::Keyword;
 use crate::reader::Reader;
 use crate::stop::Stop;
 use crate::token::Mark;
+use rule_forms::Tree;
 use std::boxed::Box;
 
-#[tactic(auto, using(crate::proofs::Trees::plain_union))]
+#[tactic(auto, using(rule_forms::proofs::Trees::plain_union))]
 fn union_of(members: Vec<Tree>) -> Tree
     ensures { plain_tree result ≡ Union_of (expressions (map plain_tree members.items)) }
 {
     Tree::Union(members)
 }
 
-#[tactic(auto, using(crate::proofs::Trees::plain_intersect))]
+#[tactic(auto, using(rule_forms::proofs::Trees::plain_intersect))]
 fn intersect_of(members: Vec<Tree>) -> Tree
     ensures { plain_tree result ≡ Intersect_of (expressions (map plain_tree members.items)) }
 {
     Tree::Intersect(members)
 }
 
-#[tactic(auto, using(crate::proofs::Trees::plain_complement))]
+#[tactic(auto, using(rule_forms::proofs::Trees::plain_complement))]
 fn complement_of(first: Box<Tree>, others: Vec<Tree>) -> Tree
     ensures { plain_tree result ≡ Complement_of (plain_tree first.value)
         (expressions (map plain_tree others.items)) }
@@ -37,7 +38,7 @@ fn complement_of(first: Box<Tree>, others: Vec<Tree>) -> Tree
 impl<'a> Reader<'a> {
     /// An expression with at most so many constructs inside one another.
     #[cycle(tree)]
-    #[tactic(auto, using(crate::proofs::Trees::one_more_deep), unfolding(crate::specs::Reading::expression_at, crate::specs::Reading::mapped, crate::specs::Reading::bind))]
+    #[tactic(auto, using(crate::proofs::Depths::one_more_deep), unfolding(crate::specs::Reading::expression_at, crate::specs::Reading::mapped, crate::specs::Reading::bind))]
     pub(crate) fn tree(&mut self, depth: u8) -> Result<Tree, Stop>
         ensures { Reads plain_tree result (tokens self.new.rest.now)
             (expression_at depth (tokens self.old.rest.now)) }
@@ -59,11 +60,11 @@ impl<'a> Reader<'a> {
         match self.key() {
             Some(Keyword::UnionAll) => {
                 self.pass();
-                Ok(union_of(self.enclosed_trees(depth)?))
+                self.enclosed_trees(depth).map(union_of)
             }
             Some(Keyword::IntersectAll) => {
                 self.pass();
-                Ok(intersect_of(self.enclosed_trees(depth)?))
+                self.enclosed_trees(depth).map(intersect_of)
             }
             Some(Keyword::RelativeComplementAll) => {
                 self.pass();
@@ -71,7 +72,7 @@ impl<'a> Reader<'a> {
                 let first = Box::new(self.alloc, first)?;
                 Ok(complement_of(first, others))
             }
-            _ => Ok(Tree::Leaf(self.fv()?)),
+            _ => self.fv().map(Tree::Leaf),
         }
     }
 

@@ -1,14 +1,14 @@
 // The tokens of expressions.
 ghost use Rattle.std.specs.Prelude.{◌≡◌, ◌++◌, ◌∷◌, OnOk, map};
 ghost use Rattle.rule_read.specs.Lexed.{tokens};
-ghost use Rattle.rule_read.specs.Forms.{commas, in_brackets, in_parentheses, keyword};
+ghost use Rattle.rule_read.specs.FormTokens.{commas, in_brackets, in_parentheses, keyword};
 ghost use Rattle.rule_read.specs.Printed.{tree_tokens};
 
-use crate::form::Tree;
 use crate::keyword::Keyword;
 use crate::printer::{put_comma, put_fv, put_key, put_mark};
 use crate::token::{Mark, Token};
 use rt_base::OutOfMemory;
+use rule_forms::Tree;
 
 #[cycle(tree)]
 #[tactic(auto, using(crate::proofs::TreeTokens::union_tokens, crate::proofs::TreeTokens::intersect_tokens))]

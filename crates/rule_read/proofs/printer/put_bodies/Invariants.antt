@@ -1,6 +1,6 @@
 use Rattle.std.proofs.Common.{◌≡◌, ◌++◌, map, take}
 use Rattle.rule_read.specs.Lexed.{tokens}
-use Rattle.rule_read.specs.Forms.{commas, body_tokens}
+use Rattle.rule_read.specs.FormTokens.{commas, body_tokens}
 use Rattle.rule_read.proofs.printer.put_bodies.Given as goal
 
 abbrev pub invariant-loop-turn : goal.invariant-loop-turn

@@ -1,5 +1,5 @@
 use Rattle.rule_read.specs.Lexed.{tokens}
-use Rattle.rule_read.specs.Forms.{word_tokens}
+use Rattle.rule_read.specs.FormTokens.{word_tokens}
 use Rattle.rule_read.proofs.Put.{next_member}
 use Rattle.rule_read.proofs.printer.put_words.Goals as goal
 

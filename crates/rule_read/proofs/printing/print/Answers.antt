@@ -2,7 +2,7 @@ use Rattle.std.proofs.Common.{ℕ, map, ap, sym, subst, ◌∙◌}
 use Rattle.std.specs.Global.{Vec}
 use Rattle.std.specs.Str.{IsUtf8}
 use Rattle.std.proofs.lemmas.Bool.{false≢true}
-use Rattle.rule_read.specs.Forms.{plain_form}
+use Rattle.rule_forms.specs.Forms.{plain_form}
 use Rattle.rule_read.specs.Grammar.{Spells}
 use Rattle.rule_read.specs.Canonical.{text_of, on_lines}
 use Rattle.rule_read.proofs.Spelled.{reading_of_spelled}

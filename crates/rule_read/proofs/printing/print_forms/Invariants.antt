@@ -1,5 +1,5 @@
 use Rattle.std.proofs.Common.{◌≡◌, map, take}
-use Rattle.rule_read.specs.Forms.{plain_form}
+use Rattle.rule_forms.specs.Forms.{plain_form}
 use Rattle.rule_read.specs.Canonical.{text_of}
 use Rattle.rule_read.proofs.printing.print_forms.Given as goal
 

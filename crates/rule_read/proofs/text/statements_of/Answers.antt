@@ -2,7 +2,7 @@ use Rattle.std.proofs.Common.{◌∷◌, [], ap, ◌∙◌, map, arith, length-a
 use Rattle.rule_read.specs.Tokens.{pieces}
 use Rattle.rule_read.specs.Lexed.{tokens}
 use Rattle.rule_read.specs.Sentences.{sentences}
-use Rattle.rule_read.specs.Forms.{plain, plain_form}
+use Rattle.rule_forms.specs.Forms.{plain, plain_form}
 use Rattle.rule_read.specs.Whole.{forms_of, after_first}
 use Rattle.rule_read.proofs.Wholes.{dot_formed, next_statement}
 use Rattle.rule_read.proofs.text.statements_of.Goals as goal

@@ -1,7 +1,7 @@
 use Rattle.std.proofs.Common.{◌≡◌, ◌+◌, ◌≤◌, length, map}
 use Rattle.rule_read.specs.Tokens.{pieces}
 use Rattle.rule_read.specs.Sentences.{sentences, sentences_of, bad_byte_of, first_bad}
-use Rattle.rule_read.specs.Forms.{plain}
+use Rattle.rule_forms.specs.Forms.{plain}
 use Rattle.rule_read.specs.Whole.{forms_of, after_first}
 use Rattle.rule_read.proofs.text.statements_of.Given as goal
 

@@ -1,6 +1,6 @@
 use Rattle.std.proofs.Common.{◌++◌, map, ap, sym, ◌∙◌}
 use Rattle.rule_read.specs.Lexed.{tokens}
-use Rattle.rule_read.specs.Forms.{in_brackets}
+use Rattle.rule_read.specs.FormTokens.{in_brackets}
 use Rattle.rule_read.specs.Printed.{tree_tokens}
 use Rattle.rule_read.proofs.Put.{next_member}
 use Rattle.rule_read.proofs.TreeTokens.{put_complement}

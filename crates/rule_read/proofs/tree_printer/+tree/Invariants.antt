@@ -1,6 +1,6 @@
 use Rattle.std.proofs.Common.{◌≡◌, ◌++◌, take, map}
 use Rattle.rule_read.specs.Lexed.{tokens}
-use Rattle.rule_read.specs.Forms.{commas}
+use Rattle.rule_read.specs.FormTokens.{commas}
 use Rattle.rule_read.specs.Printed.{tree_tokens}
 use Rattle.rule_read.proofs.tree_printer.+tree.Given as goal
 

@@ -1,7 +1,7 @@
 use Rattle.std.proofs.Common.{◌≡◌, true, false, length, map, sym, ◌∙◌, refl}
 use Rattle.std.proofs.lemmas.List.{length-map, map-append}
 use Rattle.rule_read.specs.Lexed.{tokens}
-use Rattle.rule_read.specs.Forms.{plain_tree}
+use Rattle.rule_forms.specs.Forms.{plain_tree}
 use Rattle.rule_read.specs.Reading.{has, list_at, expression_at}
 use Rattle.rule_read.specs.declared.token.Mark.TheVariants.{Comma}
 use Rattle.rule_read.proofs.Lists.{goes_on, last_one}

@@ -1,6 +1,6 @@
 use Rattle.std.proofs.Common.{◌≡◌, ◌+◌, ◌-◌, ◌*◌, map}
 use Rattle.rule_read.specs.Lexed.{tokens}
-use Rattle.rule_read.specs.Forms.{plain_tree}
+use Rattle.rule_forms.specs.Forms.{plain_tree}
 use Rattle.rule_read.specs.Reading.{list_at, expression_at, with_front}
 use Rattle.rule_read.proofs.reader.Reader.+tree.Given as goal
 
