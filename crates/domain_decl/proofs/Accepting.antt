@@ -5,21 +5,22 @@ use Rattle.ground_types.specs.Sound.{is_distinct}
 use Rattle.ground_types.specs.declared.plan.Plan.{Plan}
 use Rattle.ground_types.specs.declared.program.Domain.{Domain}
 use Rattle.ground_types.specs.declared.program.Name.{Name}
-use Rattle.rule_read.specs.declared.syntax.Statement.{Statement}
-use Rattle.rule_read.specs.Forms.{PlainStatement, plain}
-use Rattle.rule_read.specs.Sound.{AllOf, IsSoundStatement}
-use Rattle.domain_decl.specs.declared.checked.DeclRefused.{DeclRefused}
-use Rattle.domain_decl.specs.declared.checked.DeclRefused.TheVariants as refused
+use Rattle.rule_forms.specs.declared.syntax.Statement.{Statement}
+use Rattle.rule_forms.specs.Forms.{PlainStatement, plain}
+use Rattle.rule_forms.specs.Sound.{AllOf, IsSoundStatement}
+use Rattle.decl_known.specs.declared.checked.DeclRefused.{DeclRefused}
+use Rattle.decl_known.specs.declared.checked.DeclRefused.TheVariants as refused
 use Rattle.domain_decl.specs.Plans.{plan_of, only, only_or, all_in, window_in, step_in, from_in}
 use Rattle.domain_decl.specs.Plans.{queries_in}
-use Rattle.domain_decl.specs.Contents.{domains_of, domain_words, names_of, name_words, rules_of}
+use Rattle.domain_decl.specs.Contents.{domains_of, names_of, rules_of}
+use Rattle.ground_types.specs.Words.{domain_words, name_words}
 use Rattle.domain_decl.specs.Declarations.{declaration_fault, declaration_refusal}
-use Rattle.domain_decl.specs.Rules.{rule_fault, rule_refusal}
-use Rattle.domain_decl.specs.Accepted.{plain_checked, accept, checked_with, checking, or_else}
-use Rattle.domain_decl.specs.Accepted.{Answers, Tests}
-use Rattle.domain_decl.specs.Sound.{IsSound, is_sound_domain, is_sound_name}
+use Rattle.decl_known.specs.Rules.{rule_fault, rule_refusal}
+use Rattle.decl_known.specs.Checked.{plain_checked}
+use Rattle.domain_decl.specs.Accepted.{accept, checked_with, checking, or_else, Answers, Tests}
+use Rattle.decl_known.specs.Sound.{IsSound, is_sound_domain, is_sound_name}
 use Rattle.std.specs.List.{list_all}
-use Rattle.domain_decl.proofs.WordLists.{is_distinct-front}
+use Rattle.word_table.proofs.WordLists.{is_distinct-front}
 use Rattle.domain_decl.proofs.Passed.{all_pass}
 use Rattle.domain_decl.proofs.DeclaredWords.{declared_distinct}
 use Rattle.domain_decl.proofs.SoundPlan.{is_allowed-plan_by, sound_plan}

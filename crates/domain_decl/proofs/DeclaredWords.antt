@@ -7,11 +7,12 @@ use Rattle.std.specs.List.{list_any, cons_option}
 use Rattle.std.specs.Str.{bytes_eq}
 use Rattle.std.proofs.lemmas.List.Elements.{filter_map-append}
 use Rattle.ground_types.specs.Sound.{is_distinct}
-use Rattle.rule_read.specs.Forms.{PlainForm, PlainStatement, Domain, Input, Simple, Static, Derived}
-use Rattle.domain_decl.specs.Lists.{has}
-use Rattle.domain_decl.specs.Contents.{domains_of, domain_words, names_of, name_words}
+use Rattle.rule_forms.specs.Forms.{PlainForm, PlainStatement, Domain, Input, Simple, Static}
+use Rattle.rule_forms.specs.Forms.{Derived}
+use Rattle.ground_types.specs.Words.{has, domain_words, name_words}
+use Rattle.domain_decl.specs.Contents.{domains_of, names_of}
 use Rattle.domain_decl.specs.Declarations.{declares, is_declared_before, declaration_fault}
-use Rattle.domain_decl.proofs.WordLists.{bytes_eq-swap, is_distinct-push}
+use Rattle.word_table.proofs.WordLists.{bytes_eq-swap, is_distinct-push}
 use Rattle.domain_decl.proofs.Passed.{AllPass, passed}
 
 -- the words that statements declare, in the order of the text

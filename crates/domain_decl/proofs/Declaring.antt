@@ -11,43 +11,22 @@ use Rattle.std.proofs.lemmas.List.Sums.{sum_by-append}
 use Rattle.std.proofs.lemmas.Slice.Eq.{bytes_eq-Decides}
 use Rattle.ground_types.specs.Sound.{is_distinct}
 use Rattle.ground_types.specs.declared.program.Domain.{Domain}
-use Rattle.rule_read.specs.declared.syntax.Statement.{Statement}
-use Rattle.rule_read.specs.Forms.{PlainForm, PlainStatement, plain, plain_form}
-use Rattle.domain_decl.specs.declared.checked.DeclRefused.{DeclRefused}
-use Rattle.domain_decl.specs.declared.checked.DeclRefused.TheVariants as refused
-use Rattle.domain_decl.specs.Lists.{has, first_fault, first_refusal, refused_at}
+use Rattle.rule_forms.specs.declared.syntax.Statement.{Statement}
+use Rattle.rule_forms.specs.Forms.{PlainForm, PlainStatement, plain, plain_form}
+use Rattle.decl_known.specs.declared.checked.DeclRefused.{DeclRefused}
+use Rattle.decl_known.specs.declared.checked.DeclRefused.TheVariants as refused
+use Rattle.ground_types.specs.Words.{has, domain_words}
+use Rattle.decl_known.specs.Faults.{first_fault, first_refusal, refused_at}
 use Rattle.domain_decl.specs.Accepted.{Tests}
+use Rattle.word_table.proofs.WordLists.{has_put}
 use Rattle.domain_decl.proofs.Prefixes.{plain_next, refusal_next, without_fault, refused_first}
-use Rattle.domain_decl.specs.Contents.{domains_of, domain_words}
+use Rattle.domain_decl.specs.Contents.{domains_of}
 use Rattle.domain_decl.specs.Declarations.{is_domain, declares, arguments_in, members_in}
 use Rattle.domain_decl.specs.Declarations.{is_declared_before, declaration_fault}
 use Rattle.domain_decl.specs.Declarations.{declaration_refusal}
 use Rattle.domain_decl.specs.Passes.{is_among, fault_behind, too_many_behind}
 
 -- ---- the set of the words of domains
-
-or_same : (a b c : Bool) → (b ≡ true → a ≡ true) → c ≡ (b || false) → a ≡ (a || c)
-or_same true b c f e = refl
-or_same false true c f e = absurd (true≢false (sym (f refl)))
-or_same false false c f e = sym e
-
-module _ (set now : List (List ℕ)) (word : List ℕ) (added : Bool) (test : added
-    ≡ not (has set word)) (put : now ≡ (if added then set ++ word ∷ [] else set)) where
-  not_added : (b : Bool) → added ≡ b → (other : List ℕ)
-      → has now other ≡ (has set other || (bytes_eq word other || false))
-  not_added true e other = ap (λ l. has l other) (put ∙ ap (λ b. if b then set ++ word ∷ []
-      else set) e) ∙ list_any-append (λ w. bytes_eq w other) set (word ∷ [])
-  not_added false e other =
-      ap (λ l. has l other) (put ∙ ap (λ b. if b then set ++ word ∷ [] else set) e)
-      ∙ or_same (has set other) (bytes_eq word other) (bytes_eq word other || false)
-      (λ same. subst (λ w. has set w ≡ true) ((bytes_eq-Decides word other).0 same) there) refl
-    where
-      there : has set word ≡ true
-      there = grind (arith, test, e)
-
-  -- what is in a set into which a word was put
-  pub has_put : (other : List ℕ) → has now other ≡ (has set other || (bytes_eq word other || false))
-  has_put = not_added added refl
 
 -- the domain that a statement declares, if one
 pub has_domain : (o : Option Domain) (word other : List ℕ) → Some word ≡ option_map (λ d. d.word) o

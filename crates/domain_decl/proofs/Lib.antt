@@ -1,7 +1,3 @@
-pub mod WordLists
-pub mod Gathering
-pub mod LookUps
-pub mod Anys
 pub mod Prefixes
 pub mod Numbers
 pub mod Refusals
@@ -12,3 +8,4 @@ pub mod SoundPlan
 pub mod SoundDeclarations
 pub mod SoundRules
 pub mod Accepting
+pub mod Loose

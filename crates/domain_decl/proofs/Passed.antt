@@ -3,9 +3,9 @@ use Rattle.std.proofs.Common.{◌≡◌, ℕ, nat_lt, nat_le, Bool, true, false,
 use Rattle.std.proofs.Common.{◌&&◌, List, [], ◌∷◌, ◌++◌, length, Option, Some, None, refl}
 use Rattle.std.specs.List.{count_by}
 use Rattle.ground_types.specs.Sound.{is_distinct}
-use Rattle.rule_read.specs.Forms.{PlainForm, PlainStatement}
-use Rattle.domain_decl.specs.declared.checked.DeclRefused.{DeclRefused}
-use Rattle.domain_decl.specs.Lists.{Fault, first_fault, first_refusal, refused_at}
+use Rattle.rule_forms.specs.Forms.{PlainForm, PlainStatement}
+use Rattle.decl_known.specs.declared.checked.DeclRefused.{DeclRefused}
+use Rattle.decl_known.specs.Faults.{Fault, first_fault, first_refusal, refused_at}
 use Rattle.domain_decl.specs.Declarations.{is_domain, declares, arguments_in, members_in}
 use Rattle.domain_decl.specs.Declarations.{most_members, is_declared_before}
 use Rattle.domain_decl.specs.Declarations.{has_undeclared_argument, declaration_fault}

@@ -5,11 +5,11 @@ use Rattle.std.proofs.Common.{Option, Some, None, Err, refl, sym, ap, ap₂, ◌
 use Rattle.std.specs.List.{cons_option}
 use Rattle.std.proofs.lemmas.List.{take_more, map-append}
 use Rattle.std.proofs.lemmas.List.Elements.{filter-append, filter_map-append}
-use Rattle.rule_read.specs.declared.syntax.Statement.{Statement}
-use Rattle.rule_read.specs.Forms.{PlainStatement, PlainForm, plain, plain_form}
-use Rattle.domain_decl.specs.declared.checked.DeclRefused.{DeclRefused}
-use Rattle.domain_decl.specs.declared.checked.DeclRefused.TheVariants as refused
-use Rattle.domain_decl.specs.Lists.{Fault, first_refusal, refused_at}
+use Rattle.rule_forms.specs.declared.syntax.Statement.{Statement}
+use Rattle.rule_forms.specs.Forms.{PlainStatement, PlainForm, plain, plain_form}
+use Rattle.decl_known.specs.declared.checked.DeclRefused.{DeclRefused}
+use Rattle.decl_known.specs.declared.checked.DeclRefused.TheVariants as refused
+use Rattle.decl_known.specs.Faults.{Fault, first_refusal, refused_at}
 use Rattle.domain_decl.specs.Accepted.{Tests}
 
 module _ (statements : List Statement) (i : ℕ) (s : Statement) (within : i < length statements)
@@ -40,28 +40,6 @@ module _ (statements : List Statement) (i : ℕ) (s : Statement) (within : i < l
       ++ cond (p (plain s)) (plain s ∷ []) []
   filter-next p = ap (filter p) plain_next ∙ filter-append p (map plain (take i statements))
       (plain s ∷ [])
-
--- ---- a list to which what a function gives is added
-
-module _ {X Y : Type 0} (h : X → Option Y) (xs : List X) (i : ℕ) (x : X) (within : i < length xs)
-    (at : x ≡ get_or xs i x) where
-  -- what a function gives of the members up to the next
-  pub filter_map-more : filter_map h (take (i + 1) xs) ≡ filter_map h (take i xs) ++ cons_option
-      (h x) []
-  filter_map-more =
-      ap (filter_map h) (take_more xs i x within ∙ ap (λ y. take i xs ++ y ∷ []) (sym at))
-      ∙ filter_map-append h (take i xs) (x ∷ [])
-
-module _ {Y : Type 0} (all before : List Y) (o given : Option Y) (more : all ≡ before
-    ++ cons_option o []) (by : given ≡ o) (held : List Y) (same : held ≡ before) where
-  -- it was added
-  pub grown : (y : Y) (now : List Y) → given ≡ Some y → now ≡ held ++ y ∷ [] → now ≡ all
-  grown y now some put = put ∙ ap₂ (λ l o. l ++ cons_option o []) same (sym some ∙ by) ∙ sym more
-
-  -- there was nothing to add
-  pub kept : given ≡ None → held ≡ all
-  kept none = same ∙ sym (append-nil before) ∙ ap (λ o. before ++ cons_option o []) (sym none ∙ by)
-      ∙ sym more
 
 -- ---- the first refusal, statement by statement
 

@@ -3,11 +3,11 @@ use Rattle.std.proofs.Common.{◌≡◌, ℕ, ◌+◌, ◌<◌, List, length, ma
 use Rattle.std.proofs.Common.{sym, ap, ap₂, subst, ◌∙◌}
 use Rattle.ground_types.specs.declared.program.Domain.{Domain}
 use Rattle.ground_types.specs.declared.program.Name.{Name}
-use Rattle.rule_read.specs.declared.syntax.Statement.{Statement}
-use Rattle.rule_read.specs.Forms.{plain, plain_form}
-use Rattle.domain_decl.specs.declared.checked.DeclRefused.{DeclRefused}
-use Rattle.domain_decl.specs.Lists.{first_refusal, refused_at}
-use Rattle.domain_decl.specs.Rules.{rule_fault, rule_refusal}
+use Rattle.rule_forms.specs.declared.syntax.Statement.{Statement}
+use Rattle.rule_forms.specs.Forms.{plain, plain_form}
+use Rattle.decl_known.specs.declared.checked.DeclRefused.{DeclRefused}
+use Rattle.decl_known.specs.Faults.{first_refusal, refused_at}
+use Rattle.decl_known.specs.Rules.{rule_fault, rule_refusal}
 use Rattle.domain_decl.specs.Accepted.{Tests}
 use Rattle.domain_decl.proofs.Prefixes.{refusal_next, without_fault, refused_first}
 

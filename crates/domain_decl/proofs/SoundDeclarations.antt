@@ -13,15 +13,16 @@ use Rattle.ground_types.specs.Sound.{is_distinct, are_constants}
 use Rattle.ground_types.specs.declared.program.Domain.{Domain}
 use Rattle.ground_types.specs.declared.program.NameKind.{NameKind}
 use Rattle.ground_types.specs.declared.program.NameKind.TheVariants as name_kind
-use Rattle.rule_read.specs.declared.form.Decl.{Decl}
-use Rattle.rule_read.specs.Forms.{PlainForm, PlainStatement, Domain as DomainForm, Input, Simple}
-use Rattle.rule_read.specs.Forms.{Static, Derived}
-use Rattle.rule_read.specs.Sound.{AllOf, SomeOf, IsName, IsConstant, IsSoundForm}
-use Rattle.domain_decl.specs.Lists.{place_in}
-use Rattle.domain_decl.specs.Contents.{domain_in, domains_of, domain_words, declared_name, name_in}
-use Rattle.domain_decl.specs.Contents.{names_of}
+use Rattle.rule_forms.specs.declared.form.Decl.{Decl}
+use Rattle.rule_forms.specs.Forms.{PlainForm, PlainStatement, Domain as DomainForm, Input, Simple}
+use Rattle.rule_forms.specs.Forms.{Static, Derived}
+use Rattle.rule_forms.specs.Sound.{AllOf, SomeOf, IsName, IsConstant, IsSoundForm}
+use Rattle.ground_types.specs.Words.{place_in, domain_words}
+use Rattle.domain_decl.specs.Contents.{domain_in, domains_of, declared_name, name_in, names_of}
 use Rattle.domain_decl.specs.Declarations.{is_domain, declaration_fault}
-use Rattle.domain_decl.specs.Sound.{is_sound_domain, is_sound_name, has_sound_values}
+use Rattle.decl_known.proofs.Anys.{three}
+use Rattle.decl_known.proofs.Gathering.{option_length}
+use Rattle.decl_known.specs.Sound.{is_sound_domain, is_sound_name, has_sound_values}
 use Rattle.domain_decl.proofs.Declaring.{count_more}
 use Rattle.domain_decl.proofs.Passed.{AllPass, Passed, passed}
 
@@ -39,9 +40,6 @@ some_constants (w ∷ ws) h = (ap₂ ◌&&◌ h.0 (constants_pass ws h.1), grind
 
 not_above : (a b : ℕ) → nat_lt a b ≡ false → nat_le b a ≡ true
 not_above a b h = grind (arith, nat_tests)
-
-three : (a b c : Bool) → a ≡ true → b ≡ true → c ≡ true → (a && b && c) ≡ true
-three a b c x y z = rw (x, y, z) refl
 
 four : (a b c d : Bool) → a ≡ true → b ≡ true → c ≡ true → d ≡ true → (a && b && c && d) ≡ true
 four a b c d x y z w = rw (x, y, z, w) refl
@@ -91,11 +89,6 @@ few_domains all before (x ∷ xs) h k =
     (count_by (λ s. is_domain s.form) before) (passed all before x.form h.0).room k) in
     subst (λ l. count_by (λ s. is_domain s.form) l ≤ 64) (append_assoc before (x ∷ []) xs)
     (few_domains all (before ++ x ∷ []) xs h.1 next)
-
-option_length : {X : Type 0} (o : Option X) (xs : List X) → length (cons_option o xs)
-    ≡ length (cons_option o []) + length xs
-option_length None xs = omega arith
-option_length (Some x) xs = omega arith
 
 one_domain : (form : PlainForm) → length (cons_option (domain_in form) []) ≡ cond (is_domain form)
     1 0

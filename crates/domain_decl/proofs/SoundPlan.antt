@@ -5,7 +5,8 @@ use Rattle.std.proofs.lemmas.Bool.Decides.{nat_tests}
 use Rattle.std.proofs.Math.Nat.{mul-le-mul_left, mul-le-mul_right}
 use Rattle.ground_types.specs.declared.plan.Plan.{Plan}
 use Rattle.ground_types.specs.Windows.{IsSoundPlan}
-use Rattle.domain_decl.specs.Plans.{is_allowed, plan_by}
+use Rattle.decl_known.specs.Sound.{is_allowed}
+use Rattle.domain_decl.specs.Plans.{plan_by}
 
 if_some : (b : Bool) (plan given : Plan) → (if b then Some plan else None) ≡ Some given
     → (b ≡ true) × (plan ≡ given)

@@ -3,12 +3,12 @@ use Rattle.std.proofs.Common.{◌≡◌, Bool, true, false, cond, List, [], ◌�
 use Rattle.std.proofs.Common.{sym, subst}
 use Rattle.ground_types.specs.declared.program.Domain.{Domain}
 use Rattle.ground_types.specs.declared.program.Name.{Name}
-use Rattle.rule_read.specs.declared.syntax.Statement.{Statement}
-use Rattle.rule_read.specs.Forms.{PlainStatement, plain}
-use Rattle.rule_read.specs.Sound.{AllOf, IsSoundForm, IsSoundStatement}
-use Rattle.domain_decl.specs.Contents.{is_rule, rules_of}
-use Rattle.domain_decl.specs.Rules.{rule_fault}
-use Rattle.domain_decl.specs.Sound.{IsSoundRule}
+use Rattle.rule_forms.specs.declared.syntax.Statement.{Statement}
+use Rattle.rule_forms.specs.Forms.{PlainStatement, plain, is_rule}
+use Rattle.rule_forms.specs.Sound.{AllOf, IsSoundForm, IsSoundStatement}
+use Rattle.domain_decl.specs.Contents.{rules_of}
+use Rattle.decl_known.specs.Rules.{rule_fault}
+use Rattle.decl_known.specs.Sound.{IsSoundRule}
 use Rattle.domain_decl.proofs.Passed.{AllPass}
 
 abbrev pub AreSoundForms : List PlainStatement → Type 0

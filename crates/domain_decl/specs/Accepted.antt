@@ -4,29 +4,16 @@ use Rattle.std.specs.Prelude.{◌≡◌, List, map, Option, Some, None, Result, 
 use Rattle.ground_types.specs.declared.plan.Plan.{Plan}
 use Rattle.ground_types.specs.declared.program.Domain.{Domain}
 use Rattle.ground_types.specs.declared.program.Name.{Name}
-use Rattle.rule_read.specs.Forms.{PlainStatement, plain}
-use Rattle.domain_decl.specs.declared.checked.Checked.{Checked}
-use Rattle.domain_decl.specs.declared.checked.DeclRefused.{DeclRefused}
-use Rattle.domain_decl.specs.declared.checked.DeclRefused.TheVariants as refused
+use Rattle.rule_forms.specs.Forms.{PlainStatement, plain}
+use Rattle.decl_known.specs.declared.checked.Checked.{Checked}
+use Rattle.decl_known.specs.declared.checked.DeclRefused.{DeclRefused}
+use Rattle.decl_known.specs.declared.checked.DeclRefused.TheVariants as refused
 use Rattle.domain_decl.specs.Plans.{plan_of}
-use Rattle.domain_decl.specs.Contents.{domains_of, domain_words, names_of, rules_of}
+use Rattle.decl_known.specs.Checked.{PlainChecked, plain_checked}
+use Rattle.domain_decl.specs.Contents.{domains_of, names_of, rules_of}
+use Rattle.ground_types.specs.Words.{domain_words}
 use Rattle.domain_decl.specs.Declarations.{declaration_refusal}
-use Rattle.domain_decl.specs.Rules.{rule_refusal}
-
--- what an accepted description says
-pub record PlainChecked : Type 0 where
-  pub plan : Plan
-  pub domains : List Domain
-  pub names : List Name
-  pub rules : List PlainStatement
-
-abbrev pub plain_checked : Checked → PlainChecked
-plain_checked checked = record {
-  plan = checked.plan;
-  domains = checked.domains;
-  names = checked.names;
-  rules = map plain checked.rules;
-}
+use Rattle.decl_known.specs.Rules.{rule_refusal}
 
 abbrev pub names_declared : List PlainStatement → List Name
 names_declared statements = names_of (domain_words (domains_of statements)) statements

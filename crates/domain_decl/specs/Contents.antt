@@ -6,11 +6,11 @@ use Rattle.ground_types.specs.declared.program.Domain.{Domain}
 use Rattle.ground_types.specs.declared.program.Name.{Name}
 use Rattle.ground_types.specs.declared.program.NameKind.{NameKind}
 use Rattle.ground_types.specs.declared.program.NameKind.TheVariants as name_kind
-use Rattle.rule_read.specs.declared.form.Decl.{Decl}
-use Rattle.rule_read.specs.Forms.{PlainForm, PlainStatement, Domain as DomainForm, Input, Simple}
-use Rattle.rule_read.specs.Forms.{Static, Derived, Initially, Initiated, Terminated, Happens}
-use Rattle.rule_read.specs.Forms.{HoldsFor}
-use Rattle.domain_decl.specs.Lists.{place_in}
+use Rattle.rule_forms.specs.declared.form.Decl.{Decl}
+use Rattle.rule_forms.specs.Forms.{PlainForm, PlainStatement, Domain as DomainForm, Input, Simple}
+use Rattle.rule_forms.specs.Forms.{Static, Derived, Initially, Initiated, Terminated, Happens}
+use Rattle.rule_forms.specs.Forms.{HoldsFor, is_rule}
+use Rattle.ground_types.specs.Words.{place_in}
 
 abbrev pub domain_in : PlainForm → Option Domain
 domain_in (DomainForm name entities) = Some (record { word = name; entities = entities })
@@ -18,9 +18,6 @@ domain_in form = None
 
 abbrev pub domains_of : List PlainStatement → List Domain
 domains_of statements = filter_map (λ s. domain_in s.form) statements
-
-abbrev pub domain_words : List Domain → List (List ℕ)
-domain_words domains = map (λ domain. domain.word) domains
 
 -- a name whose arguments are numbers of domains; its ground events or units are not numbered yet
 abbrev pub declared_name : List (List ℕ) → NameKind → Decl → List (List ℕ) → ℕ → Name
@@ -46,17 +43,6 @@ name_in domains form line = None
 abbrev pub names_of : List (List ℕ) → List PlainStatement → List Name
 names_of domains statements = filter_map (λ s. name_in domains s.form s.line) statements
 
-abbrev pub name_words : List Name → List (List ℕ)
-name_words names = map (λ name. name.word) names
-
 -- the statements that define fluents and derived events
-abbrev pub is_rule : PlainForm → Bool
-is_rule (Initially fv) = true
-is_rule (Initiated fv bodies) = true
-is_rule (Terminated fv bodies) = true
-is_rule (Happens atom bodies) = true
-is_rule (HoldsFor fv e) = true
-is_rule form = false
-
 abbrev pub rules_of : List PlainStatement → List PlainStatement
 rules_of statements = filter (λ s. is_rule s.form) statements

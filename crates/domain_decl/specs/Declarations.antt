@@ -3,11 +3,13 @@ use Rattle.std.specs.Prelude.{ℕ, nat_lt, nat_le, Bool, true, false, not, ◌||
 use Rattle.std.specs.Prelude.{length, filter_map, count_by, Option, Some, None}
 use Rattle.std.specs.List.{list_any}
 use Rattle.ground_types.specs.Sound.{is_distinct}
-use Rattle.rule_read.specs.Forms.{PlainForm, PlainStatement, Domain, Input, Simple, Static, Derived}
-use Rattle.domain_decl.specs.declared.checked.DeclRefused.{DeclRefused}
-use Rattle.domain_decl.specs.declared.checked.DeclRefused.TheVariants as refused
-use Rattle.domain_decl.specs.Lists.{has, Fault, first_fault, first_refusal}
-use Rattle.domain_decl.specs.Contents.{domains_of, domain_words}
+use Rattle.rule_forms.specs.Forms.{PlainForm, PlainStatement, Domain, Input, Simple, Static}
+use Rattle.rule_forms.specs.Forms.{Derived}
+use Rattle.decl_known.specs.declared.checked.DeclRefused.{DeclRefused}
+use Rattle.decl_known.specs.declared.checked.DeclRefused.TheVariants as refused
+use Rattle.ground_types.specs.Words.{has, domain_words}
+use Rattle.decl_known.specs.Faults.{Fault, first_fault, first_refusal}
+use Rattle.domain_decl.specs.Contents.{domains_of}
 
 abbrev pub is_domain : PlainForm → Bool
 is_domain (Domain name entities) = true

@@ -3,25 +3,26 @@ use Rattle.std.specs.Prelude.{◌≡◌, ℕ, zero, suc, true, false, List, [], 
 use Rattle.std.specs.Prelude.{Option, Some, None, Ok, Err, refl}
 use Rattle.std.specs.List.{list_all}
 use Rattle.ground_types.specs.declared.program.NameKind.TheVariants as name_kind
-use Rattle.rule_read.specs.declared.form.Decl.{Decl}
-use Rattle.rule_read.specs.declared.form.Term.{Term}
-use Rattle.rule_read.specs.declared.form.Term.TheVariants as term
-use Rattle.rule_read.specs.declared.form.Atom.{Atom}
-use Rattle.rule_read.specs.declared.form.Fv.{Fv}
-use Rattle.rule_read.specs.declared.form.EventText.TheVariants as event
-use Rattle.rule_read.specs.declared.form.Body.{Body}
-use Rattle.rule_read.specs.declared.form.Body.TheVariants as body
-use Rattle.rule_read.specs.Forms.{Expressions, Value_of, Union_of, none, more, PlainForm}
-use Rattle.rule_read.specs.Forms.{PlainStatement, Window, Step, From, Queries, Domain, Input}
-use Rattle.rule_read.specs.Forms.{Simple, Static, Derived, Initially, Initiated, Terminated}
-use Rattle.rule_read.specs.Forms.{Happens, HoldsFor}
-use Rattle.domain_decl.specs.declared.checked.DeclRefused.{DeclRefused}
-use Rattle.domain_decl.specs.declared.checked.DeclRefused.TheVariants as refused
-use Rattle.domain_decl.specs.Plans.{is_allowed, plan_of}
-use Rattle.domain_decl.specs.Contents.{domains_of, domain_words, names_of}
+use Rattle.rule_forms.specs.declared.form.Decl.{Decl}
+use Rattle.rule_forms.specs.declared.form.Term.{Term}
+use Rattle.rule_forms.specs.declared.form.Term.TheVariants as term
+use Rattle.rule_forms.specs.declared.form.Atom.{Atom}
+use Rattle.rule_forms.specs.declared.form.Fv.{Fv}
+use Rattle.rule_forms.specs.declared.form.EventText.TheVariants as event
+use Rattle.rule_forms.specs.declared.form.Body.{Body}
+use Rattle.rule_forms.specs.declared.form.Body.TheVariants as body
+use Rattle.rule_forms.specs.Forms.{Expressions, Value_of, Union_of, none, more, PlainForm}
+use Rattle.rule_forms.specs.Forms.{PlainStatement, Window, Step, From, Queries, Domain, Input}
+use Rattle.rule_forms.specs.Forms.{Simple, Static, Derived, Initially, Initiated, Terminated}
+use Rattle.rule_forms.specs.Forms.{Happens, HoldsFor}
+use Rattle.decl_known.specs.declared.checked.DeclRefused.{DeclRefused}
+use Rattle.decl_known.specs.declared.checked.DeclRefused.TheVariants as refused
+use Rattle.decl_known.specs.Sound.{is_allowed, is_sound_domain, is_sound_name}
+use Rattle.domain_decl.specs.Plans.{plan_of}
+use Rattle.domain_decl.specs.Contents.{domains_of, names_of}
+use Rattle.ground_types.specs.Words.{domain_words}
 use Rattle.domain_decl.specs.Declarations.{declares_too_many, declaration_refusal}
-use Rattle.domain_decl.specs.Rules.{rule_refusal}
-use Rattle.domain_decl.specs.Sound.{is_sound_domain, is_sound_name}
+use Rattle.decl_known.specs.Rules.{rule_refusal}
 use Rattle.domain_decl.specs.Accepted.{checking}
 
 abbrev on_line : ℕ → PlainForm → PlainStatement

@@ -4,7 +4,7 @@ use Rattle.domain_decl.specs.declared.plans.Kind.{Kind}
 use Rattle.domain_decl.specs.declared.plans.Kind.TheVariants as kind
 use Rattle.domain_decl.specs.declared.plans.Given.{Given}
 use Rattle.domain_decl.specs.declared.plans.Given.TheVariants as given
-use Rattle.rule_read.specs.Forms.{PlainForm}
+use Rattle.rule_forms.specs.Forms.{PlainForm}
 use Rattle.domain_decl.specs.Plans.{window_in, step_in, from_in, queries_in}
 
 abbrev pub number_in : Kind → PlainForm → Option ℕ

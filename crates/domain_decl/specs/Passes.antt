@@ -3,9 +3,10 @@ use Rattle.std.specs.Prelude.{ℕ, nat_lt, nat_le, Bool, false, not, ◌||◌, �
 use Rattle.std.specs.Prelude.{length, Option, Some, None}
 use Rattle.std.specs.List.{list_any}
 use Rattle.ground_types.specs.Sound.{is_distinct}
-use Rattle.rule_read.specs.Forms.{PlainForm}
-use Rattle.domain_decl.specs.declared.checked.DeclRefused.TheVariants as refused
-use Rattle.domain_decl.specs.Lists.{has, Fault, first_fault}
+use Rattle.rule_forms.specs.Forms.{PlainForm}
+use Rattle.decl_known.specs.declared.checked.DeclRefused.TheVariants as refused
+use Rattle.ground_types.specs.Words.{has}
+use Rattle.decl_known.specs.Faults.{Fault, first_fault}
 use Rattle.domain_decl.specs.Declarations.{is_domain, declares, arguments_in, members_in}
 use Rattle.domain_decl.specs.Declarations.{most_members}
 

@@ -2,7 +2,8 @@
 use Rattle.std.specs.Prelude.{ℕ, nat_le, Bool, ◌&&◌, List, [], ◌∷◌, filter_map, Option, Some, None}
 use Rattle.std.specs.Prelude.{if◌then◌else◌}
 use Rattle.ground_types.specs.declared.plan.Plan.{Plan}
-use Rattle.rule_read.specs.Forms.{PlainForm, PlainStatement, Window, Step, From, Queries}
+use Rattle.decl_known.specs.Sound.{is_allowed}
+use Rattle.rule_forms.specs.Forms.{PlainForm, PlainStatement, Window, Step, From, Queries}
 
 abbrev pub window_in : PlainForm → Option ℕ
 window_in (Window n) = Some n
@@ -23,12 +24,6 @@ queries_in form = None
 -- the numbers of all statements of one kind
 abbrev pub all_in : (PlainForm → Option ℕ) → List PlainStatement → List ℕ
 all_in number_in statements = filter_map (λ s. number_in s.form) statements
-
-abbrev pub is_allowed : Plan → Bool
-is_allowed plan =
-    nat_le 1 plan.step && nat_le plan.step plan.window && nat_le plan.window 1000000000000
-    && nat_le plan.from 4000000000000000
-    && nat_le 1 plan.queries && nat_le plan.queries 1024
 
 -- the only one
 abbrev pub only : List ℕ → Option ℕ

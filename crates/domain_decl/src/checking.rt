@@ -1,16 +1,16 @@
 // Checking a description.
 ghost use Rattle.std.specs.Prelude.{map, IfOk};
-ghost use Rattle.rule_read.specs.Forms.{plain};
-ghost use Rattle.rule_read.specs.Sound.{IsSound as IsSoundSyntax};
+ghost use Rattle.rule_forms.specs.Forms.{plain};
+ghost use Rattle.rule_forms.specs.Sound.{IsSound as IsSoundSyntax};
 ghost use Rattle.domain_decl.specs.Accepted.{checking, Answers};
-ghost use Rattle.domain_decl.specs.Sound.{IsSound};
+ghost use Rattle.decl_known.specs.Sound.{IsSound};
 
-use crate::checked::{Checked, DeclRefused};
 use crate::contents::{domains_of, names_of, rules_of};
 use crate::declarations::test_declarations;
 use crate::plans::plan_of;
 use crate::rules::test_rules;
-use rule_read::Syntax;
+use decl_known::{Checked, DeclRefused};
+use rule_forms::Syntax;
 use std::alloc::Global;
 
 /// What a description declares: its plan, its domains and names, and copies of the statements that

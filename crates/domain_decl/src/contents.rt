@@ -1,16 +1,16 @@
 // What a description declares.
 ghost use Rattle.std.specs.Prelude.{◌≡◌, ◌<◌, ◌^◌, true, length, map, filter_map, IfOk, OnOk};
 ghost use Rattle.ground_types.specs.Sound.{is_distinct};
-ghost use Rattle.rule_read.specs.Forms.{plain, plain_form};
-ghost use Rattle.domain_decl.specs.Lists.{place_in};
-ghost use Rattle.domain_decl.specs.Contents.{declared_name, domain_in, domains_of, domain_words};
-ghost use Rattle.domain_decl.specs.Contents.{is_rule, name_in, names_of, rules_of};
+ghost use Rattle.rule_forms.specs.Forms.{plain, plain_form, is_rule};
+ghost use Rattle.ground_types.specs.Words.{place_in, domain_words};
+ghost use Rattle.domain_decl.specs.Contents.{declared_name, domain_in, domains_of, name_in};
+ghost use Rattle.domain_decl.specs.Contents.{names_of, rules_of};
 
-use crate::words::WordSet;
 use ground_types::{Domain, Name, NameKind};
 use rt_base::{List, OutOfMemory, Word};
-use rule_read::{Decl, Form, Statement};
+use rule_forms::{Decl, Form, Statement};
 use std::alloc::Global;
+use word_table::WordTable;
 
 /// A copy of a list of words.
 fn copied(alloc: Global, words: &[Word]) -> Result<List<Word>, OutOfMemory>
@@ -53,26 +53,14 @@ pub(crate) fn domains_of(
     Ok(List::of(domains))
 }
 
-/// The words of domains that are different.
-fn words_of(alloc: Global, domains: &[Domain]) -> Result<WordSet<'_>, OutOfMemory>
-    requires { is_distinct (domain_words domains.now) ≡ true }
-    ensures { IfOk result (λ set. set ≡ domain_words domains.now) }
-{
-    let mut set = WordSet::new(alloc);
-    for domain in domains {
-        set.insert(domain.word.as_str())?;
-    }
-    Ok(set)
-}
-
 /// The numbers of the domains of arguments.
-fn places(alloc: Global, domains: &WordSet<'_>, args: &[Word]) -> Result<List<u32>, OutOfMemory>
+fn places(alloc: Global, domains: &WordTable<'_>, args: &[Word]) -> Result<List<u32>, OutOfMemory>
     requires { length domains.now < 2 ^ 32 }
     ensures { IfOk result (λ places. places ≡ filter_map (place_in domains.now) args.now) }
 {
     let mut places = Vec::new(alloc);
     for arg in args {
-        if let Some(place) = domains.place(arg.as_str()) {
+        if let Some(place) = domains.place(arg.as_str().as_bytes()) {
             places.push(place as u32)?;
         }
     }
@@ -82,7 +70,7 @@ fn places(alloc: Global, domains: &WordSet<'_>, args: &[Word]) -> Result<List<u3
 /// The name that a declaration gives.
 fn declared(
     alloc: Global,
-    domains: &WordSet<'_>,
+    domains: &WordTable<'_>,
     kind: NameKind,
     decl: &Decl,
     values: &[Word],
@@ -104,39 +92,21 @@ fn declared(
 /// The name that a statement declares.
 fn name_in(
     alloc: Global,
-    domains: &WordSet<'_>,
+    domains: &WordTable<'_>,
     statement: &Statement,
 ) -> Result<Option<Name>, OutOfMemory>
     requires { length domains.now < 2 ^ 32 }
     ensures { IfOk result (λ name. name ≡ name_in domains.now (plain_form statement.now.form)
         statement.now.line) }
 {
-    let line = statement.line;
-    let name = match &statement.form {
-        Form::Input(decl) => declared(alloc, domains, NameKind::Input, decl, &[], line)?,
-        Form::Simple(decl, values) => {
-            declared(
-                alloc,
-                domains,
-                NameKind::Simple,
-                decl,
-                values.as_slice(),
-                line,
-            )?
-        }
-        Form::Static(decl, values) => {
-            declared(
-                alloc,
-                domains,
-                NameKind::Static,
-                decl,
-                values.as_slice(),
-                line,
-            )?
-        }
-        Form::Derived(decl) => declared(alloc, domains, NameKind::Derived, decl, &[], line)?,
+    let (kind, decl, values): (NameKind, &Decl, &[Word]) = match &statement.form {
+        Form::Input(decl) => (NameKind::Input, decl, &[]),
+        Form::Simple(decl, values) => (NameKind::Simple, decl, values.as_slice()),
+        Form::Static(decl, values) => (NameKind::Static, decl, values.as_slice()),
+        Form::Derived(decl) => (NameKind::Derived, decl, &[]),
         _ => return Ok(None),
     };
+    let name = declared(alloc, domains, kind, decl, values, statement.line)?;
     Ok(Some(name))
 }
 
@@ -151,7 +121,7 @@ pub(crate) fn names_of(
     ensures { IfOk result (λ names. names ≡ names_of (domain_words domains.now)
         (map plain statements.now)) }
 {
-    let words = words_of(alloc, domains)?;
+    let words = WordTable::of(alloc, domains)?;
     let mut names = Vec::new(alloc);
     for statement in statements {
         if let Some(name) = name_in(alloc, &words, statement)? {

@@ -2,20 +2,21 @@
 ghost use Rattle.std.specs.Prelude.{◌≡◌, ◌++◌, ℕ, List, [], None, true, false, map, option_map};
 ghost use Rattle.std.specs.Prelude.{IfOk, OnOk};
 ghost use Rattle.std.specs.List.{cons_option};
-ghost use Rattle.rule_read.specs.Forms.{plain, plain_form};
-ghost use Rattle.domain_decl.specs.Lists.{has, refused_at};
-ghost use Rattle.domain_decl.specs.Contents.{domain_in, domains_of, domain_words};
+ghost use Rattle.rule_forms.specs.Forms.{plain, plain_form};
+ghost use Rattle.ground_types.specs.Words.{has, domain_words};
+ghost use Rattle.decl_known.specs.Faults.{refused_at};
+ghost use Rattle.domain_decl.specs.Contents.{domain_in, domains_of};
 ghost use Rattle.domain_decl.specs.Declarations.{is_domain, declares, arguments_in, members_in};
 ghost use Rattle.domain_decl.specs.Declarations.{declaration_refusal};
 ghost use Rattle.domain_decl.specs.Passes.{too_many_behind, lacks_domain, twice_behind};
 ghost use Rattle.domain_decl.specs.Passes.{fault_behind};
 ghost use Rattle.domain_decl.specs.Accepted.{Tests};
 
-use crate::checked::DeclRefused;
-use crate::words::{WordSet, are_distinct};
+use decl_known::DeclRefused;
 use rt_base::{OutOfMemory, Word};
-use rule_read::{Form, Statement};
+use rule_forms::{Form, Statement};
 use std::alloc::Global;
+use word_table::{WordTable, are_distinct};
 
 fn is_domain(form: &Form) -> bool
     ensures { result ≡ is_domain (plain_form form.now) }
@@ -81,11 +82,11 @@ fn has_too_many(domains: usize, form: &Form) -> bool
 }
 
 /// Whether an argument is none of these domains.
-fn lacks_domain(domains: &WordSet<'_>, form: &Form) -> bool
+fn lacks_domain(domains: &WordTable<'_>, form: &Form) -> bool
     ensures { result ≡ lacks_domain domains.now (plain_form form.now) }
 {
     for argument in arguments(form) {
-        if !domains.contains(argument.as_str()) {
+        if !domains.contains(argument.as_str().as_bytes()) {
             return true;
         }
     }
@@ -95,7 +96,7 @@ fn lacks_domain(domains: &WordSet<'_>, form: &Form) -> bool
 /// Whether a word that is declared stands twice; else its word is one of those declared.
 fn declares_twice<'a>(
     alloc: Global,
-    declared: &mut WordSet<'a>,
+    declared: &mut WordTable<'a>,
     form: &'a Form,
 ) -> Result<bool, OutOfMemory>
     ensures twice { IfOk result (λ answer. answer ≡ twice_behind declared.old
@@ -115,9 +116,9 @@ fn declares_twice<'a>(
 /// declared.
 fn test_declaration<'a>(
     alloc: Global,
-    domains: &WordSet<'_>,
+    domains: &WordTable<'_>,
     count: usize,
-    declared: &mut WordSet<'a>,
+    declared: &mut WordTable<'a>,
     statement: &'a Statement,
 ) -> Result<(), DeclRefused>
     ensures tests { Tests result (refused_at (fault_behind domains.now count declared.old
@@ -139,11 +140,11 @@ fn test_declaration<'a>(
 }
 
 /// The words of all domains.
-fn domain_set(alloc: Global, statements: &[Statement]) -> Result<WordSet<'_>, OutOfMemory>
+fn domain_set(alloc: Global, statements: &[Statement]) -> Result<WordTable<'_>, OutOfMemory>
     ensures { IfOk result (λ set. (word : List ℕ)
         → has set word ≡ has (domain_words (domains_of (map plain statements.now))) word) }
 {
-    let mut set = WordSet::new(alloc);
+    let mut set = WordTable::new(alloc);
     for statement in statements {
         if let Some(word) = domain_word(&statement.form) {
             set.insert(word.as_str())?;
@@ -157,7 +158,7 @@ pub(crate) fn test_declarations(alloc: Global, statements: &[Statement]) -> Resu
     ensures { Tests result (declaration_refusal (map plain statements.now)) }
 {
     let domains = domain_set(alloc, statements)?;
-    let mut declared = WordSet::new(alloc);
+    let mut declared = WordTable::new(alloc);
     let mut count = 0;
     for statement in statements {
         test_declaration(alloc, &domains, count, &mut declared, statement)?;

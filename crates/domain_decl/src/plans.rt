@@ -1,11 +1,12 @@
 // The plan that a description states.
 ghost use Rattle.std.specs.Prelude.{◌≡◌, ℕ, List, Some, map};
-ghost use Rattle.rule_read.specs.Forms.{plain, plain_form};
-ghost use Rattle.domain_decl.specs.Plans.{all_in, is_allowed, only, only_or, plan_by, plan_of};
+ghost use Rattle.rule_forms.specs.Forms.{plain, plain_form};
+ghost use Rattle.domain_decl.specs.Plans.{all_in, only, only_or, plan_by, plan_of};
+ghost use Rattle.decl_known.specs.Sound.{is_allowed};
 ghost use Rattle.domain_decl.specs.Given.{number_in, given_by, with_number};
 
 use ground_types::Plan;
-use rule_read::{Form, Statement};
+use rule_forms::{Form, Statement};
 
 /// A statement of a number.
 #[derive(Clone, Copy, Debug, PartialEq, Eq)]

@@ -3,25 +3,22 @@ ghost use Rattle.std.specs.Prelude.{◌≡◌, ◌++◌, ◌≤◌, true, map, l
 ghost use Rattle.std.specs.Prelude.{option_copied};
 ghost use Rattle.std.specs.List.{list_any};
 ghost use Rattle.ground_types.specs.Sound.{is_distinct};
-ghost use Rattle.rule_read.specs.Forms.{plain_form, plain};
-ghost use Rattle.domain_decl.specs.Lists.{has, refused_at};
-ghost use Rattle.domain_decl.specs.Contents.{domain_words, name_words};
-ghost use Rattle.domain_decl.specs.Mentions.{fits, head_of, conditions_of, leaves_of};
-ghost use Rattle.domain_decl.specs.Mentions.{body_mentions, mentions};
-ghost use Rattle.domain_decl.specs.Rules.{has_too_many, begins_with_trigger, lacks_trigger};
-ghost use Rattle.domain_decl.specs.Rules.{names_undeclared, is_of_wrong_kind, has_wrong_arity};
-ghost use Rattle.domain_decl.specs.Rules.{is_foreign, lacks_value, has_undeclared_word, places};
-ghost use Rattle.domain_decl.specs.Rules.{rule_fault, rule_refusal};
+ghost use Rattle.rule_forms.specs.Forms.{plain_form, plain, conditions_of};
+ghost use Rattle.ground_types.specs.Words.{has, domain_words, name_words};
+ghost use Rattle.decl_known.specs.Faults.{refused_at};
+ghost use Rattle.decl_known.specs.Mentions.{fits, head_of, leaves_of, body_mentions, mentions};
+ghost use Rattle.decl_known.specs.Rules.{has_too_many, begins_with_trigger, lacks_trigger};
+ghost use Rattle.decl_known.specs.Rules.{names_undeclared, is_of_wrong_kind, has_wrong_arity};
+ghost use Rattle.decl_known.specs.Rules.{is_foreign, lacks_value, has_undeclared_word, places};
+ghost use Rattle.decl_known.specs.Rules.{rule_fault, rule_refusal, word_fault};
 ghost use Rattle.domain_decl.specs.Accepted.{Tests};
-ghost use Rattle.domain_decl.specs.Gathered.{role_of, mention_of, mentions_of, places_of};
+ghost use Rattle.decl_known.specs.Gathered.{role_of, mention_of, mentions_of, places_of};
 
-use crate::checked::DeclRefused;
-use crate::known::Known;
-use crate::mentions::{Mention, Role, conditions_of, gather};
-use crate::variables::{Place, gather_places, has_clash, has_loose_variable};
+use crate::variables::{has_clash, has_loose_variable};
+use decl_known::{DeclRefused, Known, Mention, Place, Role, gather, gather_places};
 use ground_types::{Domain, Name, NameKind};
 use rt_base::Word;
-use rule_read::{Body, Form, Statement, Term};
+use rule_forms::{Body, Form, Statement, Term, conditions_of};
 use std::alloc::Global;
 
 fn has_too_many(form: &Form, leaves: &[Mention]) -> bool
@@ -164,6 +161,41 @@ fn any_undeclared_word(known: &Known, mentions: &[Mention]) -> bool
         .any(|mention| has_undeclared_word(known, mention))
 }
 
+// Tests what stands in the atoms of a statement whose names are declared and of their kinds.
+fn test_words(
+    known: &Known,
+    statement: &Statement,
+    atoms: &[Mention],
+    others: usize,
+    variables: &[Place],
+) -> Result<(), DeclRefused>
+    requires all { mentions_of atoms.now ≡ mentions (plain_form statement.now.form) }
+    requires within { others ≤ length atoms.now }
+    requires others { mentions_of (take others atoms.now) ≡ head_of (plain_form statement.now.form)
+        ++ flat_map body_mentions (conditions_of (plain_form statement.now.form)) }
+    requires leaves { mentions_of (drop others atoms.now)
+        ≡ leaves_of (plain_form statement.now.form) }
+    requires places { places_of variables.now ≡ places known.now.names.now
+        (plain_form statement.now.form) }
+    ensures { Tests result (refused_at (word_fault known.now.domains.now known.now.names.now
+        (plain_form statement.now.form)) statement.now.line None) }
+{
+    let line = statement.line;
+    if any_of_wrong_arity(known, atoms) {
+        return Err(DeclRefused::Arity { line });
+    }
+    if any_undeclared_word(known, atoms) {
+        return Err(DeclRefused::Undeclared { line });
+    }
+    if has_clash(variables) {
+        return Err(DeclRefused::Clash { line });
+    }
+    if has_loose_variable(&statement.form, atoms, others) {
+        return Err(DeclRefused::Loose { line });
+    }
+    Ok(())
+}
+
 // Tests a statement whose atoms are these, so many of them before its leaves, and whose variables
 // stand at these places.
 fn test_parts(
@@ -198,19 +230,7 @@ fn test_parts(
     if any_of_wrong_kind(known, atoms) {
         return Err(DeclRefused::WrongKind { line });
     }
-    if any_of_wrong_arity(known, atoms) {
-        return Err(DeclRefused::Arity { line });
-    }
-    if any_undeclared_word(known, atoms) {
-        return Err(DeclRefused::Undeclared { line });
-    }
-    if has_clash(variables) {
-        return Err(DeclRefused::Clash { line });
-    }
-    if has_loose_variable(form, atoms, others) {
-        return Err(DeclRefused::Loose { line });
-    }
-    Ok(())
+    test_words(known, statement, atoms, others, variables)
 }
 
 // Tests a statement, with two lists in which its parts are gathered.

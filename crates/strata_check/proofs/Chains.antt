@@ -8,13 +8,12 @@ use Rattle.std.specs.List.{cons_option}
 use Rattle.std.specs.Str.{bytes_eq}
 use Rattle.ground_types.specs.declared.program.Name.{Name}
 use Rattle.ground_types.specs.Sound.{is_distinct}
-use Rattle.rule_read.specs.Forms.{PlainStatement}
-use Rattle.domain_decl.specs.Lists.{has, place_in}
-use Rattle.domain_decl.specs.Contents.{name_words}
-use Rattle.strata_check.specs.Occurrences.{bodies_of, occurs, IsChain, IsFirstCycle}
+use Rattle.rule_forms.specs.Forms.{PlainStatement}
+use Rattle.ground_types.specs.Words.{has, place_in, name_words}
+use Rattle.decl_known.specs.Occurrences.{bodies_of, occurs, IsChain, IsFirstCycle}
 use Rattle.strata_check.specs.Rows.{row_at, NamesIt, IsWay, Leads, AreInside, IsFirstCircle}
 use Rattle.strata_check.specs.Rows.{places_of, AreRows}
-use Rattle.strata_check.proofs.Places.{same_word, equal_word, place_here, word_there, word_of_name}
+use Rattle.word_table.proofs.LookUps.{same_word, equal_word, place_here, word_there, word_of_name}
 use Rattle.strata_check.proofs.Places.{row_is}
 use Rattle.strata_check.proofs.Heads.{IsHead}
 

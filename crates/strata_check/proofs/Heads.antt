@@ -9,23 +9,23 @@ use Rattle.ground_types.specs.declared.program.Name.{Name}
 use Rattle.ground_types.specs.declared.program.NameKind.{NameKind}
 use Rattle.ground_types.specs.declared.program.NameKind.TheVariants as name_kind
 use Rattle.ground_types.specs.Sound.{is_input}
-use Rattle.rule_read.specs.declared.syntax.Statement.{Statement}
-use Rattle.rule_read.specs.Forms.{PlainForm, plain, plain_form, Window, Step, From, Queries}
-use Rattle.rule_read.specs.Forms.{Domain as DomainForm, Input, Simple, Static, Derived, Initially}
-use Rattle.rule_read.specs.Forms.{Initiated, Terminated, Happens, HoldsFor}
-use Rattle.rule_read.specs.Sound.{AllOf}
-use Rattle.domain_decl.specs.Lists.{has, place_in, Fault, first_fault}
-use Rattle.domain_decl.specs.Contents.{name_words}
-use Rattle.domain_decl.specs.Mentions.{SimpleFluent, StaticFluent, DerivedEvent, Mention, fits}
-use Rattle.domain_decl.specs.Mentions.{head_of, body_mentions, conditions_of, leaves_of, mentions}
-use Rattle.domain_decl.specs.Rules.{has_too_many, lacks_trigger, names_undeclared, differs_in_kind}
-use Rattle.domain_decl.specs.Rules.{is_of_wrong_kind, has_wrong_arity, has_undeclared_word}
-use Rattle.domain_decl.specs.Rules.{has_clash, has_loose_variable, rule_fault}
-use Rattle.domain_decl.specs.declared.checked.DeclRefused.TheVariants as refused
-use Rattle.domain_decl.specs.Sound.{IsSoundRule}
-use Rattle.domain_decl.proofs.LookUps.{declaration_by_place, no_declaration_by_place}
-use Rattle.strata_check.specs.Occurrences.{defines, body_of, bodies_of, occurs}
-use Rattle.strata_check.proofs.Places.{same_word}
+use Rattle.rule_forms.specs.declared.syntax.Statement.{Statement}
+use Rattle.rule_forms.specs.Forms.{PlainForm, plain, plain_form, Window, Step, From, Queries}
+use Rattle.rule_forms.specs.Forms.{Domain as DomainForm, Input, Simple, Static, Derived, Initially}
+use Rattle.rule_forms.specs.Forms.{Initiated, Terminated, Happens, HoldsFor, conditions_of}
+use Rattle.rule_forms.specs.Sound.{AllOf}
+use Rattle.ground_types.specs.Words.{has, place_in, name_words}
+use Rattle.decl_known.proofs.ComputedKinds.{simple_computed, static_computed, derived_computed}
+use Rattle.decl_known.specs.Faults.{Fault, first_fault}
+use Rattle.decl_known.specs.Mentions.{SimpleFluent, StaticFluent, DerivedEvent, Mention, fits}
+use Rattle.decl_known.specs.Mentions.{head_of, body_mentions, leaves_of, mentions}
+use Rattle.decl_known.specs.Rules.{has_too_many, lacks_trigger, names_undeclared, differs_in_kind}
+use Rattle.decl_known.specs.Rules.{is_of_wrong_kind, has_wrong_arity, has_undeclared_word}
+use Rattle.decl_known.specs.Rules.{has_clash, has_loose_variable, rule_fault}
+use Rattle.decl_known.specs.declared.checked.DeclRefused.TheVariants as refused
+use Rattle.decl_known.specs.Sound.{IsSoundRule}
+use Rattle.word_table.proofs.LookUps.{declaration_by_place, no_declaration_by_place, same_word}
+use Rattle.decl_known.specs.Occurrences.{defines, body_of, bodies_of, occurs}
 
 -- the word is that of a declared name that is no input
 pub record IsHead (names : List Name) (word : List ℕ) : Type 0 where
@@ -54,24 +54,6 @@ right_kinds domains names form h =
     ∷ (list_any (has_undeclared_word domains names) (mentions form), refused.Undeclared)
     ∷ (has_clash names form, refused.Clash) ∷ (has_loose_variable form, refused.Loose) ∷ []) h
 
-simple_kind : (kind : NameKind) → fits SimpleFluent kind ≡ true → is_input kind ≡ false
-simple_kind name_kind.Input e = absurd (true≢false (sym e))
-simple_kind name_kind.Simple e = refl
-simple_kind name_kind.Static e = refl
-simple_kind name_kind.Derived e = refl
-
-static_kind : (kind : NameKind) → fits StaticFluent kind ≡ true → is_input kind ≡ false
-static_kind name_kind.Input e = absurd (true≢false (sym e))
-static_kind name_kind.Simple e = refl
-static_kind name_kind.Static e = refl
-static_kind name_kind.Derived e = refl
-
-derived_kind : (kind : NameKind) → fits DerivedEvent kind ≡ true → is_input kind ≡ false
-derived_kind name_kind.Input e = absurd (true≢false (sym e))
-derived_kind name_kind.Simple e = refl
-derived_kind name_kind.Static e = refl
-derived_kind name_kind.Derived e = refl
-
 data HasHead (form : PlainForm) : Type 0 where
   no_head : head_of form ≡ [] → HasHead form
   one_head : (m : Mention) → head_of form ≡ m ∷ [] → ((kind : NameKind) → fits m.role kind ≡ true
@@ -87,11 +69,11 @@ heads (Input decl) = no_head refl
 heads (Simple decl values) = no_head refl
 heads (Static decl values) = no_head refl
 heads (Derived decl) = no_head refl
-heads (Initially fv) = one_head _ refl simple_kind
-heads (Initiated fv bodies) = one_head _ refl simple_kind
-heads (Terminated fv bodies) = one_head _ refl simple_kind
-heads (Happens atom bodies) = one_head _ refl derived_kind
-heads (HoldsFor fv e) = one_head _ refl static_kind
+heads (Initially fv) = one_head _ refl simple_computed
+heads (Initiated fv bodies) = one_head _ refl simple_computed
+heads (Terminated fv bodies) = one_head _ refl simple_computed
+heads (Happens atom bodies) = one_head _ refl derived_computed
+heads (HoldsFor fv e) = one_head _ refl static_computed
 
 or_left : (a b : Bool) → (a || b) ≡ false → a ≡ false
 or_left true b e = e

@@ -8,18 +8,18 @@ use Rattle.std.proofs.lemmas.Option.{slice_get_within, slice_get-map, get_or_fro
 use Rattle.std.specs.List.{cons_option}
 use Rattle.std.specs.Str.{bytes_eq}
 use Rattle.ground_types.specs.declared.program.Name.{Name}
-use Rattle.rule_read.specs.Forms.{PlainStatement}
-use Rattle.domain_decl.specs.Lists.{has, place_in}
-use Rattle.domain_decl.specs.Contents.{name_words}
+use Rattle.rule_forms.specs.Forms.{PlainStatement}
+use Rattle.ground_types.specs.Words.{has, place_in, name_words}
 use Rattle.strata_check.specs.declared.walk.Mark.{Mark}
 use Rattle.strata_check.specs.declared.walk.Mark.TheVariants as mark
-use Rattle.strata_check.specs.Occurrences.{bodies_of, occurs, IsChain, NoneBefore}
-use Rattle.strata_check.specs.Layers.{layer_at, layer_of, greatest, layer_by, IsLayering}
+use Rattle.decl_known.specs.Occurrences.{bodies_of, occurs, IsChain, NoneBefore}
+use Rattle.decl_known.specs.Layers.{layer_at, layer_of, greatest, layer_by, IsLayering}
 use Rattle.strata_check.specs.Rows.{row_at, places_of, AreRows}
 use Rattle.strata_check.specs.Walks.{layer_by_mark, layer_in, layers_in, layer_over, IsDoneMark}
 use Rattle.strata_check.specs.Walks.{AllDone}
-use Rattle.strata_check.proofs.Marks.{greatest_cons}
-use Rattle.strata_check.proofs.Places.{same_word, word_there, word_of_name, row_is}
+use Rattle.decl_known.proofs.Greatest.{greatest_cons}
+use Rattle.word_table.proofs.LookUps.{same_word, word_there, word_of_name}
+use Rattle.strata_check.proofs.Places.{row_is}
 use Rattle.strata_check.proofs.Heads.{IsHead}
 
 abbrev pub given : List Mark → List ℕ

@@ -2,9 +2,10 @@
 use Rattle.std.proofs.Common.{◌≡◌, ◌⊎◌, inl, inr, ℕ, zero, suc, ◌+◌, ◌≤◌, max, List, [], ◌∷◌, ◌++◌}
 use Rattle.std.proofs.Common.{length, take, set, slice_get, Some, None, refl, sym, ap, ap₂, subst}
 use Rattle.std.proofs.Common.{◌∙◌, arith}
+use Rattle.decl_known.proofs.Greatest.{greatest_cons}
 use Rattle.strata_check.specs.declared.walk.Mark.{Mark}
 use Rattle.strata_check.specs.declared.walk.Mark.TheVariants as mark
-use Rattle.strata_check.specs.Layers.{greatest}
+use Rattle.decl_known.specs.Layers.{greatest}
 use Rattle.strata_check.specs.Rows.{row_at}
 use Rattle.strata_check.specs.Walks.{layer_by_mark, layers_in, IsDoneMark, AreDone, finished}
 use Rattle.strata_check.specs.Walks.{steps_at, steps_left}
@@ -46,9 +47,6 @@ module _ {X : Type 0} where
   take_past (z ∷ xs) (suc i) e = ap (λ l. z ∷ l) (take_past xs i e)
 
 -- ---- greatest layers
-
-pub greatest_cons : (n : ℕ) (ns : List ℕ) → greatest (n ∷ ns) ≡ max n (greatest ns)
-greatest_cons n ns = grind (arith, nat_tests)
 
 pub greatest_push : (ns : List ℕ) (n : ℕ) → greatest (ns ++ n ∷ []) ≡ max (greatest ns) n
 greatest_push [] n = greatest_cons n [] ∙ omega arith

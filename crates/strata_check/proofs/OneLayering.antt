@@ -6,13 +6,12 @@ use Rattle.std.proofs.lemmas.List.{get_or_past}
 use Rattle.std.proofs.lemmas.Option.{slice_get_cases, slice_get-map, get_or_from_slice_get}
 use Rattle.ground_types.specs.declared.program.Name.{Name}
 use Rattle.ground_types.specs.Sound.{is_input}
-use Rattle.rule_read.specs.Forms.{PlainStatement}
-use Rattle.domain_decl.specs.Lists.{place_in}
-use Rattle.domain_decl.specs.Contents.{name_words}
-use Rattle.strata_check.specs.Occurrences.{bodies_of}
-use Rattle.strata_check.specs.Layers.{layer_at, layer_of, greatest, layer_by, IsLayering}
-use Rattle.strata_check.proofs.Marks.{greatest_cons}
-use Rattle.strata_check.proofs.Places.{word_there}
+use Rattle.rule_forms.specs.Forms.{PlainStatement}
+use Rattle.ground_types.specs.Words.{place_in, name_words}
+use Rattle.decl_known.specs.Occurrences.{bodies_of}
+use Rattle.decl_known.specs.Layers.{layer_at, layer_of, greatest, layer_by, IsLayering}
+use Rattle.decl_known.proofs.Greatest.{greatest_cons}
+use Rattle.word_table.proofs.LookUps.{word_there}
 
 maps_agree : (f g : List ℕ → ℕ) (k : ℕ) → ((word : List ℕ) → f word < k → f word ≡ g word)
     → (ws : List (List ℕ)) → greatest (map f ws) < k → map f ws ≡ map g ws

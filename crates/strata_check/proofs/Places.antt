@@ -15,97 +15,27 @@ use Rattle.std.specs.List.{list_any, position_or_len, cons_option}
 use Rattle.std.specs.Str.{bytes_eq}
 use Rattle.ground_types.specs.declared.program.Name.{Name}
 use Rattle.ground_types.specs.Sound.{is_distinct}
-use Rattle.rule_read.specs.Forms.{PlainForm, PlainStatement, Window, Step, From, Queries, Domain}
-use Rattle.rule_read.specs.Forms.{Input, Simple, Static, Derived, Initially, Initiated, Terminated}
-use Rattle.rule_read.specs.Forms.{Happens, HoldsFor}
-use Rattle.domain_decl.specs.Lists.{place_in}
-use Rattle.domain_decl.specs.Contents.{name_words}
-use Rattle.domain_decl.specs.Mentions.{Mention, head_of, body_mentions, conditions_of, leaves_of}
-use Rattle.strata_check.specs.Occurrences.{defines, body_of, bodies_of}
+use Rattle.rule_forms.specs.Forms.{PlainForm, PlainStatement, Window, Step, From, Queries, Domain}
+use Rattle.rule_forms.specs.Forms.{Input, Simple, Static, Derived, Initially, Initiated, Terminated}
+use Rattle.rule_forms.specs.Forms.{Happens, HoldsFor, conditions_of}
+use Rattle.ground_types.specs.Words.{place_in, name_words}
+use Rattle.decl_known.specs.Mentions.{Mention, head_of, body_mentions, leaves_of}
+use Rattle.decl_known.specs.declared.mentions.Mention.{Mention as Lent}
+use Rattle.decl_known.specs.Gathered.{mentions_of}
+use Rattle.decl_known.specs.Occurrences.{defines, body_of, bodies_of}
 use Rattle.strata_check.specs.Rows.{row_at, places_of, mention_places, body_places, add_at}
 use Rattle.strata_check.specs.Rows.{with_rule, AreRows}
+use Rattle.word_table.proofs.LookUps.{same_word, equal_word, place_here, word_there, word_of_name}
 use Rattle.strata_check.proofs.Marks.{set_cases, set_same}
 
--- ---- places of words
+-- ---- the names of atoms that are lent
 
-pub same_word : (a b : List ℕ) → bytes_eq a b ≡ true → a ≡ b
-same_word a b e = (bytes_eq-Decides a b).0 e
-
-pub equal_word : (a b : List ℕ) → a ≡ b → bytes_eq a b ≡ true
-equal_word a b e = (bytes_eq-Decides a b).1 e
-
-any_at : (q : List ℕ → Bool) (xs : List (List ℕ)) (k : ℕ) (w : List ℕ) → slice_get xs k ≡ Some w
-    → q w ≡ true → list_any q xs ≡ true
-any_at q [] k w e t = absurd (cc)
-any_at q (x ∷ xs) zero w e t = let same : x ≡ w = cc in ap (λ b. b || list_any q xs) (ap q same ∙ t)
-any_at q (x ∷ xs) (suc k) w e t = or_true (q x) (list_any q xs) (any_at q xs k w e t)
-  where
-    or_true : (a b : Bool) → b ≡ true → (a || b) ≡ true
-    or_true true b e = refl
-    or_true false b e = e
-
-apart : (a b c : Bool) → (not a && b) ≡ true → c ≡ true → (c ≡ true → a ≡ true) → ⊥
-apart true b c d e f = true≢false (sym d)
-apart false b c d e f = true≢false (sym (f e))
-
-and_right : (a b : Bool) → (a && b) ≡ true → b ≡ true
-and_right true b e = e
-and_right false b e = absurd (true≢false (sym e))
-
-first_place : (words : List (List ℕ)) (k : ℕ) (w : List ℕ) → is_distinct words ≡ true
-    → slice_get words k ≡ Some w → position_or_len (λ o. bytes_eq o w) words ≡ k
-first_place [] k w d e = absurd (cc)
-first_place (x ∷ xs) zero w d e = let same : x ≡ w = cc in
-    ap (λ b. cond (not b) (1 + position_or_len (λ o. bytes_eq o w) xs) 0) (equal_word x w same)
-first_place (x ∷ xs) (suc k) w d e =
-    let rest : position_or_len (λ o. bytes_eq o w) xs ≡ k =
-    first_place xs k w (and_right (not (list_any (bytes_eq x) xs)) (is_distinct xs) d) e in
-    by (bytes_eq x w) refl ∙ ap suc rest
-  where
-    by : (b : Bool) → bytes_eq x w ≡ b → cond (not (bytes_eq x w))
-        (1 + position_or_len (λ o. bytes_eq o w) xs) 0 ≡ suc (position_or_len (λ o. bytes_eq o w)
-        xs)
-    by true f = absurd (apart (list_any (bytes_eq x) xs) (is_distinct xs) (bytes_eq x w) d f
-        (λ t. any_at (bytes_eq x) xs k w e t))
-    by false f = ap (λ b. cond (not b) (1 + position_or_len (λ o. bytes_eq o w) xs) 0) f
-        ∙ omega arith
-
--- a word of different ones is found at its place
-pub place_here : (words : List (List ℕ)) (k : ℕ) (w : List ℕ) → is_distinct words ≡ true
-    → slice_get words k ≡ Some w → place_in words w ≡ Some k
-place_here words k w d e =
-    let inside = slice_get_within words k w e in
-    let lt : nat_lt k (length words) ≡ true = grind (arith, nat_tests) in
-    ap (λ n. cond (nat_lt n (length words)) (Some n) None) (first_place words k w d e)
-    ∙ ap (λ b. cond b (Some k) None) lt
-
--- and at its place a word stands
-pub word_there : (words : List (List ℕ)) (k : ℕ) (w : List ℕ) → place_in words w ≡ Some k
-    → slice_get words k ≡ Some w
-word_there words k w e =
-    let found = position-Some (λ o. bytes_eq o w) words k [] e in
-    slice_get-get_or words k [] found.0 ∙ ap Some (same_word (get_or words k []) w found.1)
-
-pub word_of_name : (names : List Name) (place : ℕ) (name : Name) → slice_get names place
-    ≡ Some name → slice_get (name_words names) place ≡ Some name.word
-word_of_name names place name e = slice_get-map (λ n. n.word) names place
-    ∙ ap (option_map (λ n. n.word)) e
-
--- ---- atoms one after the other
-
-module _ {A X Y : Type 0} (f : X → Option Y) (g : A → List X) where
-  pub gather_more : (items : List A) (i n : ℕ) (a : A) (now old before : List Y) → i < length items
-      → a ≡ get_or items i a → n ≡ i + 1 → now ≡ old ++ filter_map f (g a)
-      → old ≡ before ++ filter_map f (flat_map g (take i items))
-      → now ≡ before ++ filter_map f (flat_map g (take n items))
-  gather_more items i n a now old before inside at more put held =
-      put ∙ ap (λ l. l ++ filter_map f (g a)) held ∙ append_assoc before _ _
-      ∙ ap (λ l. before ++ l)
-      (sym (filter_map-append f (flat_map g (take i items)) (g a))
-      ∙ ap (filter_map f)
-      (flat_map_more g [] (take i items) a
-      ∙ ap (λ x. flat_map g (take i items ++ x ∷ [])) at
-      ∙ ap (flat_map g) (sym (take_more items i a inside) ∙ ap (λ k. take k items) (sym more))))
+pub names_lent : (names : List Name) (ms : List Lent)
+    → filter_map (λ m. place_in (name_words names) m.atom.now.name) ms
+    ≡ mention_places names (mentions_of ms)
+names_lent names [] = refl
+names_lent names (m ∷ ms) = ap (cons_option (place_in (name_words names) m.atom.now.name))
+    (names_lent names ms)
 
 -- ---- rows, one rule after the other
 

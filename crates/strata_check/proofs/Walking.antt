@@ -8,7 +8,7 @@ use Rattle.ground_types.specs.declared.program.Name.{Name}
 use Rattle.ground_types.specs.Sound.{is_input}
 use Rattle.strata_check.specs.declared.walk.Mark.{Mark}
 use Rattle.strata_check.specs.declared.walk.Mark.TheVariants as mark
-use Rattle.strata_check.specs.Layers.{greatest}
+use Rattle.decl_known.specs.Layers.{greatest}
 use Rattle.strata_check.specs.Rows.{row_at, NamesIt, IsWay, Leads}
 use Rattle.strata_check.specs.Walks.{layer_by_mark, layer_in, layers_in, layer_over, IsDoneMark}
 use Rattle.strata_check.specs.Walks.{IsOpenMark, IsNewMark, AreDone, finished, Stands, IsApart}

@@ -1,5 +1,5 @@
-pub mod Occurrences
-pub mod Layers
+pub use Rattle.decl_known.specs.Occurrences
+pub use Rattle.decl_known.specs.Layers
 pub mod Rows
 pub mod Walks
 pub mod Searches

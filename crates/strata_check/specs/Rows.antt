@@ -2,12 +2,11 @@
 use Rattle.std.specs.Prelude.{◌≡◌, ◌<◌, ℕ, List, [], ◌∷◌, ◌++◌, length, filter_map, flat_map}
 use Rattle.std.specs.Prelude.{slice_get, slice_index_or, slice_set, option_to_list, Option, Some}
 use Rattle.ground_types.specs.declared.program.Name.{Name}
-use Rattle.rule_read.specs.declared.form.Atom.{Atom}
-use Rattle.rule_read.specs.Forms.{PlainForm, PlainStatement}
-use Rattle.domain_decl.specs.Lists.{place_in}
-use Rattle.domain_decl.specs.Contents.{name_words}
-use Rattle.domain_decl.specs.Mentions.{Mention, head_of, body_mentions, conditions_of, leaves_of}
-use Rattle.strata_check.specs.Occurrences.{bodies_of}
+use Rattle.rule_forms.specs.declared.form.Atom.{Atom}
+use Rattle.rule_forms.specs.Forms.{PlainForm, PlainStatement, conditions_of}
+use Rattle.ground_types.specs.Words.{place_in, name_words}
+use Rattle.decl_known.specs.Mentions.{Mention, head_of, body_mentions, leaves_of}
+use Rattle.decl_known.specs.Occurrences.{bodies_of}
 
 -- ---- rows of places
 

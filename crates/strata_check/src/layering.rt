@@ -1,11 +1,11 @@
 // The layers of the names of a description.
 ghost use Rattle.std.specs.Prelude.{◌≡◌, ℕ, length, map, IfOk, Some, Err};
 ghost use Rattle.ground_types.specs.declared.program.Name.{Name};
-ghost use Rattle.rule_read.specs.Forms.{PlainStatement, plain};
-ghost use Rattle.domain_decl.specs.Sound.{IsSound};
+ghost use Rattle.rule_forms.specs.Forms.{PlainStatement, plain};
+ghost use Rattle.decl_known.specs.Sound.{IsSound};
 ghost use Rattle.strata_check.specs.declared.layering.StrataRefused.TheVariants.{Cyclic};
-ghost use Rattle.strata_check.specs.Occurrences.{NoneBefore, IsFirstCycle};
-ghost use Rattle.strata_check.specs.Layers.{IsLayering};
+ghost use Rattle.decl_known.specs.Occurrences.{NoneBefore, IsFirstCycle};
+ghost use Rattle.decl_known.specs.Layers.{IsLayering};
 ghost use Rattle.strata_check.specs.Rows.{AreInside, AreRows, HasCircle, IsFirstCircle};
 ghost use Rattle.strata_check.specs.Walks.{layer_by_mark};
 
@@ -15,16 +15,9 @@ use crate::row::Row;
 use crate::rows::rows_of;
 use crate::ties::first_tied;
 use crate::walk::{Graph, Mark, walk};
-use domain_decl::{Checked, Known};
+use decl_known::{Checked, Known, LayerList};
 use rt_base::{List, OutOfMemory};
 use std::alloc::Global;
-
-/// The layer of each name.
-#[derive(Debug, Drop)]
-pub struct LayerList {
-    /// One for each name, in declared order; 0 for input events.
-    pub of_name: List<u32>,
-}
 
 /// Why there are no layers.
 #[derive(Clone, Copy, Debug, PartialEq, Eq)]

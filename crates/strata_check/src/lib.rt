@@ -13,8 +13,9 @@ mod rows;
 mod ties;
 mod walk;
 
+pub use decl_known::LayerList;
 pub use laws::one_layering;
-pub use layering::{LayerList, StrataRefused, layers};
+pub use layering::{StrataRefused, layers};
 
 #[cfg(test)]
 mod tests;

@@ -1,17 +1,16 @@
 // The rows of all names, one rule after the other.
-ghost use Rattle.std.specs.Prelude.{◌≡◌, ◌++◌, ◌∷◌, [], true, length, map, flat_map, replicate};
+ghost use Rattle.std.specs.Prelude.{◌≡◌, ◌++◌, ◌∷◌, [], true, length, map, replicate};
 ghost use Rattle.std.specs.Prelude.{option_to_list, IfOk};
 ghost use Rattle.ground_types.specs.Sound.{is_distinct};
-ghost use Rattle.rule_read.specs.Forms.{plain, plain_form, plain_tree};
-ghost use Rattle.domain_decl.specs.Contents.{name_words};
-ghost use Rattle.domain_decl.specs.Mentions.{body_mentions, leaves, head_of, leaves_of};
-ghost use Rattle.strata_check.specs.Rows.{mention_places, body_places, with_rule, atom_places};
-ghost use Rattle.strata_check.specs.Rows.{AreRows};
+ghost use Rattle.ground_types.specs.Words.{name_words, place_in};
+ghost use Rattle.rule_forms.specs.Forms.{plain, plain_form};
+ghost use Rattle.decl_known.specs.Gathered.{mentions_of};
+ghost use Rattle.strata_check.specs.Rows.{mention_places, with_rule, atom_places, add_at, AreRows};
 
 use crate::row::Row;
-use domain_decl::{Known, atom_of, conditions_of};
+use decl_known::{Known, Mention, gather};
 use rt_base::OutOfMemory;
-use rule_read::{Atom, Body, Form, Statement, Tree};
+use rule_forms::{Atom, Form, Statement};
 use std::alloc::Global;
 
 // Adds the place of the name of an atom.
@@ -24,103 +23,52 @@ fn add_atom(known: &Known, atom: &Atom, row: &mut Row) -> Result<(), OutOfMemory
     Ok(())
 }
 
-// Adds the place of the name in a condition, which `\=` has not.
-fn add_condition(known: &Known, body: &Body, row: &mut Row) -> Result<(), OutOfMemory>
+// Adds the places of the names of some atoms.
+fn add_names(known: &Known, atoms: &[Mention], row: &mut Row) -> Result<(), OutOfMemory>
     ensures { IfOk result (λ _. row.new ≡ row.old ++ mention_places known.now.names.now
-        (body_mentions body.now)) }
+        (mentions_of atoms.now)) }
 {
-    match body {
-        Body::Happens { event, .. } => add_atom(known, atom_of(event), row)?,
-        Body::Holds { fv, .. } => add_atom(known, &fv.atom, row)?,
-        Body::Unequal(..) => {}
+    for mention in atoms {
+        add_atom(known, mention.atom, row)?;
     }
     Ok(())
 }
 
-// Adds the places of the names in conditions.
-fn add_conditions(known: &Known, bodies: &[Body], row: &mut Row) -> Result<(), OutOfMemory>
-    ensures { IfOk result (λ _. row.new ≡ row.old ++ mention_places known.now.names.now
-        (flat_map body_mentions bodies.now)) }
+// Adds to the row of the name of a head the places of the names in its body.
+fn add_body(
+    known: &Known,
+    head: &Mention,
+    body: &[Mention],
+    rows: &mut Vec<Row>,
+) -> Result<(), OutOfMemory>
+    requires { length rows.old.items ≡ length known.now.names.now }
+    ensures { IfOk result (λ _. rows.new.items ≡ add_at rows.old.items
+        (option_to_list (place_in (name_words known.now.names.now) head.now.atom.now.name))
+        (mention_places known.now.names.now (mentions_of body.now))) }
 {
-    for body in bodies {
-        add_condition(known, body, row)?;
+    if let Some(place) = known.place(&head.atom.name) {
+        add_names(known, body, &mut rows[place])?;
     }
     Ok(())
 }
 
-// Adds the places of the names in an expression.
-#[cycle(leaves)]
-fn add_leaves(known: &Known, tree: &Tree, row: &mut Row) -> Result<(), OutOfMemory>
-    ensures { IfOk result (λ _. row.new ≡ row.old ++ mention_places known.now.names.now
-        (leaves (plain_tree tree.now))) }
-{
-    match tree {
-        Tree::Leaf(fv) => add_atom(known, &fv.atom, row),
-        Tree::Union(members) => add_all_leaves(known, members, row),
-        Tree::Intersect(members) => add_all_leaves(known, members, row),
-        Tree::Complement(first, others) => {
-            add_leaves(known, first, row)?;
-            add_all_leaves(known, others, row)
-        }
-    }
-}
-
-#[cycle(leaves)]
-fn add_all_leaves(known: &Known, trees: &[Tree], row: &mut Row) -> Result<(), OutOfMemory>
-    ensures { IfOk result (λ _. row.new ≡ row.old ++ mention_places known.now.names.now
-        (flat_map (λ tree. leaves (plain_tree tree)) trees.now)) }
-{
-    for tree in trees {
-        add_leaves(known, tree, row)?;
-    }
-    Ok(())
-}
-
-// The place of the name that a statement defines.
-fn head_place(known: &Known, form: &Form) -> Option<usize>
-    ensures { option_to_list result ≡ mention_places known.now.names.now
-        (head_of (plain_form form.now)) }
-{
-    match form {
-        Form::Initially(fv) => known.place(&fv.atom.name),
-        Form::Initiated(fv, _) => known.place(&fv.atom.name),
-        Form::Terminated(fv, _) => known.place(&fv.atom.name),
-        Form::Happens(atom, _) => known.place(&atom.name),
-        Form::HoldsFor(fv, _) => known.place(&fv.atom.name),
-        _ => None,
-    }
-}
-
-// Adds the places of the names in a statement's expression.
-fn add_leaves_of(known: &Known, form: &Form, row: &mut Row) -> Result<(), OutOfMemory>
-    ensures { IfOk result (λ _. row.new ≡ row.old ++ mention_places known.now.names.now
-        (leaves_of (plain_form form.now))) }
-{
-    match form {
-        Form::HoldsFor(_, tree) => add_leaves(known, tree, row),
-        _ => Ok(()),
-    }
-}
-
-// Adds the places of the names in the body of a statement.
-fn add_body(known: &Known, form: &Form, row: &mut Row) -> Result<(), OutOfMemory>
-    ensures { IfOk result (λ _. row.new ≡ row.old ++ body_places known.now.names.now
-        (plain_form form.now)) }
-{
-    add_conditions(known, conditions_of(form), row)?;
-    add_leaves_of(known, form, row)
-}
-
-// Adds to the row of the name that a statement defines the places of the names in its body.
-fn add_rule(known: &Known, form: &Form, rows: &mut Vec<Row>) -> Result<(), OutOfMemory>
+// Adds to the row of the name that a statement defines the places of the names in its body, with a
+// list in which its atoms are gathered.
+fn add_rule<'a>(
+    known: &Known,
+    form: &'a Form,
+    atoms: &mut Vec<Mention<'a>>,
+    rows: &mut Vec<Row>,
+) -> Result<(), OutOfMemory>
     requires { length rows.old.items ≡ length known.now.names.now }
     ensures { IfOk result (λ _. rows.new.items ≡ with_rule known.now.names.now rows.old.items
         (plain_form form.now)) }
 {
-    if let Some(head) = head_place(known, form) {
-        add_body(known, form, &mut rows[head])?;
+    gather(form, atoms)?;
+    match atoms.as_slice() {
+        [head, body @ ..] => add_body(known, head, body, rows),
+        [] => Ok(()),
     }
-    Ok(())
 }
 
 // So many empty rows.
@@ -144,8 +92,9 @@ pub(crate) fn rows_of(
     ensures { IfOk result (λ rows. AreRows (map plain rules.now) known.now.names.now rows.items) }
 {
     let mut rows = empty_rows(alloc, known.names.len())?;
+    let mut atoms = Vec::new(alloc);
     for rule in rules {
-        add_rule(known, &rule.form, &mut rows)?;
+        add_rule(known, &rule.form, &mut atoms, &mut rows)?;
     }
     Ok(rows)
 }

@@ -1,9 +1,10 @@
 use Rattle.std.proofs.Common.{◌≡◌, ◌∙◌, ◌<◌, ◌^◌, ap, sym, subst, map, length, Err, arith, rules}
 use Rattle.std.proofs.lemmas.List.{length-map}
-use Rattle.rule_read.specs.Forms.{plain}
-use Rattle.rule_read.specs.Sound.{AllOf, IsSoundStatement}
-use Rattle.domain_decl.specs.Contents.{domain_words, names_of}
-use Rattle.domain_decl.specs.Rules.{rule_refusal}
+use Rattle.rule_forms.specs.Forms.{plain}
+use Rattle.rule_forms.specs.Sound.{AllOf, IsSoundStatement}
+use Rattle.ground_types.specs.Words.{domain_words}
+use Rattle.domain_decl.specs.Contents.{names_of}
+use Rattle.decl_known.specs.Rules.{rule_refusal}
 use Rattle.domain_decl.specs.Accepted.{checking, Answers}
 use Rattle.domain_decl.proofs.Accepting.{domains_few, domains_different, words_different}
 use Rattle.domain_decl.proofs.Accepting.{refused_by_rule, accepted, accepted_sound}

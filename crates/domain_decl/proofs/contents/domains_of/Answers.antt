@@ -1,6 +1,7 @@
 use Rattle.std.proofs.Common.{◌∙◌, ap}
 use Rattle.domain_decl.specs.Contents.{domain_in}
-use Rattle.domain_decl.proofs.Prefixes.{filter_map-next, grown, kept}
+use Rattle.domain_decl.proofs.Prefixes.{filter_map-next}
+use Rattle.decl_known.proofs.Gathering.{grown, kept}
 use Rattle.domain_decl.proofs.contents.domains_of.Goals.{in-Some+in_ok-push, in_default}
 use Rattle.domain_decl.proofs.contents.domains_of.Goals as goal
 

@@ -1,5 +1,5 @@
 use Rattle.std.proofs.Common.{◌≡◌, map, take}
-use Rattle.rule_read.specs.Forms.{plain}
+use Rattle.rule_forms.specs.Forms.{plain}
 use Rattle.domain_decl.specs.Contents.{domains_of}
 use Rattle.domain_decl.proofs.contents.domains_of.Given as goal
 

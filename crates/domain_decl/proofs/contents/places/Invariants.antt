@@ -1,5 +1,5 @@
 use Rattle.std.proofs.Common.{◌≡◌, take, filter_map}
-use Rattle.domain_decl.specs.Lists.{place_in}
+use Rattle.ground_types.specs.Words.{place_in}
 use Rattle.domain_decl.proofs.contents.places.Given as goal
 
 abbrev pub invariant-loop-arg : goal.invariant-loop-arg

@@ -1,5 +1,5 @@
 use Rattle.std.proofs.Common.{◌≡◌, map, take}
-use Rattle.rule_read.specs.Forms.{plain}
+use Rattle.rule_forms.specs.Forms.{plain}
 use Rattle.domain_decl.specs.Contents.{rules_of}
 use Rattle.domain_decl.proofs.contents.rules_of.Given as goal
 

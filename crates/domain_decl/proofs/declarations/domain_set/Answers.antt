@@ -1,11 +1,11 @@
 use Rattle.std.proofs.Common.{◌∙◌, ap, ap₂, sym, map, take, ◌||◌, [], Some}
 use Rattle.std.specs.List.{cons_option}
-use Rattle.rule_read.specs.Forms.{plain, plain_form}
-use Rattle.domain_decl.specs.Lists.{has}
-use Rattle.domain_decl.specs.Contents.{domain_in, domains_of, domain_words}
+use Rattle.rule_forms.specs.Forms.{plain, plain_form}
+use Rattle.ground_types.specs.Words.{has, domain_words}
+use Rattle.domain_decl.specs.Contents.{domain_in, domains_of}
 use Rattle.domain_decl.proofs.Prefixes.{filter_map-next}
-use Rattle.domain_decl.proofs.Declaring.{has_put, has_domain, has_no_domain, or_nothing}
-use Rattle.domain_decl.proofs.Declaring.{has_domains}
+use Rattle.word_table.proofs.WordLists.{has_put}
+use Rattle.domain_decl.proofs.Declaring.{has_domain, has_no_domain, or_nothing, has_domains}
 use Rattle.domain_decl.proofs.declarations.domain_set.Goals.{in-Some+in_ok-insert, in_default}
 use Rattle.domain_decl.proofs.declarations.domain_set.Goals as goal
 

@@ -1,6 +1,6 @@
 use Rattle.std.proofs.Common.{◌≡◌, take, false, not}
 use Rattle.std.specs.List.{list_any}
-use Rattle.domain_decl.specs.Lists.{has}
+use Rattle.ground_types.specs.Words.{has}
 use Rattle.domain_decl.proofs.declarations.lacks_domain.Given as goal
 
 abbrev pub invariant-loop-argument : goal.invariant-loop-argument

@@ -1,7 +1,7 @@
 use Rattle.std.proofs.Common.{◌≡◌, ◌≤◌, map, take, drop, filter_map}
 use Rattle.std.specs.List.{count_by}
-use Rattle.rule_read.specs.Forms.{plain}
-use Rattle.domain_decl.specs.Lists.{first_refusal}
+use Rattle.rule_forms.specs.Forms.{plain}
+use Rattle.decl_known.specs.Faults.{first_refusal}
 use Rattle.domain_decl.specs.Declarations.{is_domain, declares, declaration_fault}
 use Rattle.domain_decl.specs.Declarations.{declaration_refusal}
 use Rattle.domain_decl.proofs.declarations.test_declarations.Given as goal

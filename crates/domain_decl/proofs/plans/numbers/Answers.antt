@@ -1,5 +1,5 @@
 use Rattle.std.proofs.Common.{◌≡◌, ◌∙◌, ap, ap₂, sym, map, take, ◌+◌}
-use Rattle.rule_read.specs.Forms.{plain, plain_form}
+use Rattle.rule_forms.specs.Forms.{plain, plain_form}
 use Rattle.domain_decl.specs.Given.{number_in, given_by, with_number}
 use Rattle.domain_decl.specs.Plans.{all_in}
 use Rattle.domain_decl.proofs.Prefixes.{filter_map-next}

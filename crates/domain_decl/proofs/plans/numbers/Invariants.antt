@@ -1,5 +1,5 @@
 use Rattle.std.proofs.Common.{◌≡◌, map, take}
-use Rattle.rule_read.specs.Forms.{plain}
+use Rattle.rule_forms.specs.Forms.{plain}
 use Rattle.domain_decl.specs.Plans.{all_in}
 use Rattle.domain_decl.specs.Given.{number_in, given_by}
 use Rattle.domain_decl.proofs.plans.numbers.Given as goal

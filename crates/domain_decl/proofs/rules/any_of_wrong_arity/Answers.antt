@@ -1,9 +1,9 @@
 use Rattle.std.proofs.Common.{◌∙◌, sym, rules, tests}
 use Rattle.std.proofs.lemmas.Iterator.{YieldsList-from_slice}
 use Rattle.std.proofs.lemmas.Iterator.Search.{any_from_yields_List}
-use Rattle.domain_decl.specs.Rules.{has_wrong_arity}
-use Rattle.domain_decl.specs.Gathered.{mention_of}
-use Rattle.domain_decl.proofs.Anys.{any_of_mentions}
+use Rattle.decl_known.specs.Rules.{has_wrong_arity}
+use Rattle.decl_known.specs.Gathered.{mention_of}
+use Rattle.domain_decl.proofs.Loose.{any_of_mentions}
 use Rattle.domain_decl.proofs.rules.any_of_wrong_arity.Goals as goal
 
 pub returns : goal.returns

@@ -1,7 +1,7 @@
 use Rattle.std.proofs.Common.{◌≡◌, map, take, drop}
-use Rattle.rule_read.specs.Forms.{plain}
-use Rattle.domain_decl.specs.Lists.{first_refusal}
-use Rattle.domain_decl.specs.Rules.{rule_fault, rule_refusal}
+use Rattle.rule_forms.specs.Forms.{plain}
+use Rattle.decl_known.specs.Faults.{first_refusal}
+use Rattle.decl_known.specs.Rules.{rule_fault, rule_refusal}
 use Rattle.domain_decl.proofs.rules.test_rules.Given as goal
 
 abbrev pub invariant-loop-statement : goal.invariant-loop-statement

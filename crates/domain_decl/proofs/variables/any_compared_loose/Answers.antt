@@ -2,11 +2,11 @@ use Rattle.std.proofs.Common.{◌∙◌, sym, rules, tests, not}
 use Rattle.std.proofs.lemmas.Iterator.{YieldsList-from_slice}
 use Rattle.std.proofs.lemmas.Iterator.Search.{any_from_yields_List}
 use Rattle.std.specs.List.{list_any}
-use Rattle.domain_decl.specs.Lists.{has}
-use Rattle.domain_decl.specs.Mentions.{variables}
-use Rattle.domain_decl.specs.Rules.{compared}
-use Rattle.domain_decl.specs.Gathered.{mentions_of}
-use Rattle.domain_decl.proofs.Anys.{any_compared}
+use Rattle.ground_types.specs.Words.{has}
+use Rattle.decl_known.specs.Mentions.{variables}
+use Rattle.decl_known.specs.Rules.{compared}
+use Rattle.decl_known.specs.Gathered.{mentions_of}
+use Rattle.domain_decl.proofs.Loose.{any_compared}
 use Rattle.domain_decl.proofs.variables.any_compared_loose.Goals as goal
 
 pub returns : goal.returns

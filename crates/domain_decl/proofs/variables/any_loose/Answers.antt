@@ -2,9 +2,10 @@ use Rattle.std.proofs.Common.{◌∙◌, sym, rules, tests}
 use Rattle.std.proofs.lemmas.Iterator.{YieldsList-from_slice}
 use Rattle.std.proofs.lemmas.Iterator.Search.{any_from_yields_List}
 use Rattle.std.specs.List.{list_any}
-use Rattle.domain_decl.specs.Mentions.{variables}
-use Rattle.domain_decl.specs.Gathered.{mentions_of, is_loose}
-use Rattle.domain_decl.proofs.Anys.{any_loose_of}
+use Rattle.decl_known.specs.Mentions.{variables}
+use Rattle.decl_known.specs.Gathered.{mentions_of}
+use Rattle.domain_decl.specs.Loose.{is_loose}
+use Rattle.domain_decl.proofs.Loose.{any_loose_of}
 use Rattle.domain_decl.proofs.variables.any_loose.Goals as goal
 
 pub returns : goal.returns

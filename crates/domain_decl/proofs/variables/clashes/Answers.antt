@@ -1,9 +1,9 @@
 use Rattle.std.proofs.Common.{◌∙◌, sym, rules, tests}
 use Rattle.std.proofs.lemmas.Iterator.{YieldsList-from_slice}
 use Rattle.std.proofs.lemmas.Iterator.Search.{any_from_yields_List}
-use Rattle.domain_decl.specs.Rules.{clash}
-use Rattle.domain_decl.specs.Gathered.{place_of}
-use Rattle.domain_decl.proofs.Anys.{any_of_places}
+use Rattle.decl_known.specs.Rules.{clash}
+use Rattle.decl_known.specs.Gathered.{place_of}
+use Rattle.domain_decl.proofs.Loose.{any_of_places}
 use Rattle.domain_decl.proofs.variables.clashes.Goals as goal
 
 pub returns : goal.returns

@@ -2,9 +2,9 @@ use Rattle.std.proofs.Common.{◌∙◌, sym, rules, tests}
 use Rattle.std.proofs.lemmas.Iterator.{YieldsList-from_slice}
 use Rattle.std.proofs.lemmas.Iterator.Search.{any_from_yields_List}
 use Rattle.std.specs.List.{list_any}
-use Rattle.domain_decl.specs.Rules.{clash}
-use Rattle.domain_decl.specs.Gathered.{place_of, places_of}
-use Rattle.domain_decl.proofs.Anys.{any_of_places}
+use Rattle.decl_known.specs.Rules.{clash}
+use Rattle.decl_known.specs.Gathered.{place_of, places_of}
+use Rattle.domain_decl.proofs.Loose.{any_of_places}
 use Rattle.domain_decl.proofs.variables.has_clash.Goals as goal
 
 pub returns : goal.returns

@@ -2,8 +2,8 @@ use Rattle.std.proofs.Common.{◌∙◌, sym, rules, tests}
 use Rattle.std.proofs.lemmas.Iterator.{YieldsList-from_slice}
 use Rattle.std.proofs.lemmas.Iterator.Search.{any_from_yields_List}
 use Rattle.std.specs.List.{list_any}
-use Rattle.domain_decl.specs.Gathered.{is_variable}
-use Rattle.domain_decl.proofs.Anys.{is_variable_of}
+use Rattle.domain_decl.specs.Loose.{is_variable}
+use Rattle.domain_decl.proofs.Loose.{is_variable_of}
 use Rattle.domain_decl.proofs.variables.stands_in.Goals as goal
 
 pub returns : goal.returns

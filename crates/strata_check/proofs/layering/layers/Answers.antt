@@ -1,12 +1,12 @@
 use Rattle.std.proofs.Common.{◌≡◌, ◌<◌, length, map, get_or, sym, ap, subst, ◌∙◌, arith}
 use Rattle.std.proofs.Common.{MatchOption}
 use Rattle.std.proofs.lemmas.Option.{slice_get-get_or}
-use Rattle.rule_read.specs.Forms.{plain}
-use Rattle.domain_decl.specs.Contents.{domain_words, name_words}
-use Rattle.domain_decl.proofs.LookUps.{is_distinct-back}
-use Rattle.strata_check.specs.Layers.{IsLayering}
+use Rattle.rule_forms.specs.Forms.{plain}
+use Rattle.ground_types.specs.Words.{domain_words, name_words}
+use Rattle.word_table.proofs.LookUps.{is_distinct-back}
+use Rattle.decl_known.specs.Layers.{IsLayering}
 use Rattle.strata_check.specs.Rows.{AreInside, AreRows, HasCircle, IsFirstCircle}
-use Rattle.strata_check.specs.Occurrences.{IsFirstCycle}
+use Rattle.decl_known.specs.Occurrences.{IsFirstCycle}
 use Rattle.strata_check.specs.Walks.{AllDone}
 use Rattle.strata_check.proofs.Heads.{has_head}
 use Rattle.strata_check.proofs.Chains.{inside, first_cycle}

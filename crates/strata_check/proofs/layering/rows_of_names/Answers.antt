@@ -1,7 +1,7 @@
 use Rattle.std.proofs.Common.{ap, ◌∙◌}
 use Rattle.ground_types.specs.Sound.{is_distinct}
-use Rattle.domain_decl.specs.Contents.{domain_words, name_words}
-use Rattle.domain_decl.proofs.LookUps.{is_distinct-back}
+use Rattle.ground_types.specs.Words.{domain_words, name_words}
+use Rattle.word_table.proofs.LookUps.{is_distinct-back}
 use Rattle.strata_check.proofs.layering.rows_of_names.Goals as goal
 
 pub rows_of-requires : goal.rows_of-requires

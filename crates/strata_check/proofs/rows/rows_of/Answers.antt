@@ -1,6 +1,6 @@
 use Rattle.std.proofs.Common.{◌∷◌, [], ◌++◌, map, take, ap, sym, ◌∙◌}
 use Rattle.std.proofs.lemmas.List.{take_more, map-append}
-use Rattle.rule_read.specs.Forms.{plain}
+use Rattle.rule_forms.specs.Forms.{plain}
 use Rattle.strata_check.proofs.Places.{one_more_rule}
 use Rattle.strata_check.proofs.rows.rows_of.Goals as goal
 

@@ -1,5 +1,5 @@
 use Rattle.std.proofs.Common.{map, take}
-use Rattle.rule_read.specs.Forms.{plain}
+use Rattle.rule_forms.specs.Forms.{plain}
 use Rattle.strata_check.specs.Rows.{AreRows}
 use Rattle.strata_check.proofs.rows.rows_of.Given as goal
 

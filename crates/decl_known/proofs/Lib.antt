@@ -1,0 +1,5 @@
+pub mod Gathering
+pub mod LookUps
+pub mod Anys
+pub mod Greatest
+pub mod ComputedKinds

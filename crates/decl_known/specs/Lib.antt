@@ -1,0 +1,9 @@
+pub mod Faults
+pub mod Mentions
+pub mod Rules
+pub mod Checked
+pub mod Sound
+pub mod Known
+pub mod Gathered
+pub mod Occurrences
+pub mod Layers

@@ -1,9 +1,0 @@
-use Rattle.std.proofs.Common.{◌≡◌, ◌++◌, flat_map, take}
-use Rattle.domain_decl.specs.Gathered.{mentions_of}
-use Rattle.domain_decl.proofs.Gathering.{tree_leaves}
-use Rattle.domain_decl.proofs.mentions.+leaves.Given as goal
-
-abbrev pub invariant-add_all_leaves-loop-tree : goal.invariant-add_all_leaves-loop-tree
-invariant-add_all_leaves-loop-tree l =
-    mentions_of l.into.items ≡ mentions_of l.initial.into.items ++ flat_map tree_leaves
-    (take l.tree-index l.trees)
