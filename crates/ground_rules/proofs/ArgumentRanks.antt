@@ -12,12 +12,12 @@ use Rattle.std.specs.Str.{bytes_eq}
 use Rattle.ground_types.specs.Sound.{entity_count, domain_sizes, arguments_of}
 use Rattle.ground_types.specs.declared.program.Domain.{Domain}
 use Rattle.ground_types.specs.declared.program.Name.{Name}
-use Rattle.rule_read.specs.declared.form.Term.{Term}
-use Rattle.ground_rules.specs.Counted.{capped, ranked, has_small_numbers}
+use Rattle.rule_forms.specs.declared.form.Term.{Term}
+use Rattle.ground_names.specs.Counted.{capped, ranked, has_small_numbers}
 use Rattle.ground_rules.specs.Assignments.{Instance}
 use Rattle.ground_rules.specs.Atoms.{ground_term, ground_args}
-use Rattle.ground_rules.proofs.Caps.{capped_add, capped_mul, capped_small}
-use Rattle.ground_rules.proofs.Ranks.{no_rank, rank_is_position, no_position}
+use Rattle.ground_names.proofs.Caps.{capped_add, capped_mul, capped_small}
+use Rattle.ground_names.proofs.Ranks.{no_rank, rank_is_position, no_position}
 
 -- ---- ranks that stop at the greatest number
 

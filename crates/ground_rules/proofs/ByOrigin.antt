@@ -11,7 +11,7 @@ use Rattle.std.proofs.lemmas.List.FromFn.{filter_of_map_range_with_len_more}
 use Rattle.std.proofs.lemmas.List.Folds.{list_all-append}
 use Rattle.std.proofs.lemmas.Grind.{flat_map-append, fold-append}
 use Rattle.std.proofs.lemmas.List.Elements.{filter_map-append}
-use Rattle.domain_decl.proofs.Prefixes.{grown, kept}
+use Rattle.decl_known.proofs.Gathering.{grown, kept}
 use Rattle.std.specs.List.{cons_option, range_with_len, enumerate_from, list_all, fold}
 use Rattle.std.proofs.lemmas.List.Sums.{sum_by-cons}
 use Rattle.std.proofs.lemmas.Option.{slice_get-get_or, same_Some}
@@ -24,7 +24,7 @@ use Rattle.ground_rules.specs.Atoms.{head_unit, head_value}
 use Rattle.ground_rules.specs.Grounded.{PlainUnit, kind_by, instances_at, units_by}
 use Rattle.ground_rules.specs.Limits.{assignment_count}
 use Rattle.ground_rules.specs.Origins.{with_key, gathered, put, clause_at, count_at, is_origin}
-use Rattle.ground_rules.specs.Origins.{instance_at, unit_at, is_permitted_at, first_origins}
+use Rattle.ground_rules.specs.Origins.{instance_at, origin_unit, is_permitted_at, first_origins}
 use Rattle.ground_rules.specs.Origins.{origins_at, origins_of, no_clause, AreOrigins, AreFew}
 use Rattle.ground_rules.specs.Origins.{has_units_below}
 use Rattle.ground_rules.proofs.ByLayer.{enumerate_from-last}
@@ -106,7 +106,7 @@ module _ (clauses : List Clause) where
       (sym (omega arith)))
 
   -- those with a unit in their head
-  pub mine_are : (unit : ℕ) → map (instance_at clauses) (with_key (unit_at clauses)
+  pub mine_are : (unit : ℕ) → map (instance_at clauses) (with_key (origin_unit clauses)
       (origins_of clauses) unit) ≡ instances_at unit (flat_map instances clauses)
   mine_are unit =
       filter_mapped (instance_at clauses) (λ i. nat_eq (head_unit i) unit) (origins_of clauses)
@@ -167,29 +167,29 @@ get_or_mapped f (y ∷ ys) (suc i) x d within at = get_or_mapped f ys i x d (ome
 
 module _ (clauses : List Clause) where
   pub first_origins_more : (statement count : ℕ) (lists : List (List Origin))
-      → fold (put (unit_at clauses)) (fold (put (unit_at clauses)) lists
+      → fold (put (origin_unit clauses)) (fold (put (origin_unit clauses)) lists
       (first_origins clauses statement count))
       (cond (is_permitted_at clauses (record { statement = statement; assignment = count }))
       (record { statement = statement; assignment = count } ∷ []) [])
-      ≡ fold (put (unit_at clauses)) lists (first_origins clauses statement (count + 1))
+      ≡ fold (put (origin_unit clauses)) lists (first_origins clauses statement (count + 1))
   first_origins_more statement count lists =
       let origin = origin_of clauses statement in
-      sym (fold-append (put (unit_at clauses)) lists (first_origins clauses statement count)
+      sym (fold-append (put (origin_unit clauses)) lists (first_origins clauses statement count)
       (cond (is_permitted_at clauses (origin count)) (origin count ∷ []) []))
-      ∙ ap (fold (put (unit_at clauses)) lists)
+      ∙ ap (fold (put (origin_unit clauses)) lists)
       (sym (filter_of_map_range_with_len_more (is_permitted_at clauses) origin 0 count count
       (omega arith)))
 
   pub origins_more : (statement : ℕ) (lists : List (List Origin))
-      → fold (put (unit_at clauses)) (fold (put (unit_at clauses)) lists
+      → fold (put (origin_unit clauses)) (fold (put (origin_unit clauses)) lists
       (flat_map (origins_at clauses) (range_with_len 0 statement)))
       (origins_at clauses statement)
-      ≡ fold (put (unit_at clauses)) lists (flat_map (origins_at clauses)
+      ≡ fold (put (origin_unit clauses)) lists (flat_map (origins_at clauses)
       (range_with_len 0 (statement + 1)))
   origins_more statement lists =
-      sym (fold-append (put (unit_at clauses)) lists (flat_map (origins_at clauses)
+      sym (fold-append (put (origin_unit clauses)) lists (flat_map (origins_at clauses)
       (range_with_len 0 statement)) (origins_at clauses statement))
-      ∙ ap (fold (put (unit_at clauses)) lists)
+      ∙ ap (fold (put (origin_unit clauses)) lists)
       (sym (flat_map-range_more (origins_at clauses) statement))
 
 -- ---- all of them are origins
@@ -264,14 +264,14 @@ module _ (clauses : List Clause) (few : AreFew clauses) where
   -- the origins of a unit
   module _ (lists : List (List Origin)) (are : AreOrigins clauses lists) (unit : ℕ)
       (below : unit < length lists) where
-    pub mine_here : get_or lists unit [] ≡ with_key (unit_at clauses) (origins_of clauses) unit
+    pub mine_here : get_or lists unit [] ≡ with_key (origin_unit clauses) (origins_of clauses) unit
     mine_here = ap (λ ls. get_or ls unit []) are ∙ get_or-map-range_with_len
-        (with_key (unit_at clauses) (origins_of clauses)) 0 (length lists) unit unit [] below
+        (with_key (origin_unit clauses) (origins_of clauses)) 0 (length lists) unit unit [] below
         (omega arith)
 
     pub mine_are_origins : list_all (is_origin clauses) (get_or lists unit []) ≡ true
     mine_are_origins = ap (list_all (is_origin clauses)) mine_here
-        ∙ list_all-filter (is_origin clauses) (λ o. nat_eq (unit_at clauses o) unit)
+        ∙ list_all-filter (is_origin clauses) (λ o. nat_eq (origin_unit clauses o) unit)
         (origins_of clauses) all_are
 
     pub mine_are_instances : map (instance_at clauses) (get_or lists unit []) ≡ instances_at unit
@@ -408,12 +408,12 @@ passes_here p (y ∷ ys) (suc i) x all inside at =
     passes_here p ys i x (second_of p (p y) (list_all p ys) all) (omega arith) at
 
 pub are_origins : (clauses : List Clause) (count : ℕ) (lists : List (List Origin))
-    → lists ≡ gathered (unit_at clauses) count (origins_of clauses) → (length lists ≡ count)
+    → lists ≡ gathered (origin_unit clauses) count (origins_of clauses) → (length lists ≡ count)
     × AreOrigins clauses lists
 are_origins clauses count lists are =
-    let len = ap length are ∙ length-map-range_with_len (with_key (unit_at clauses)
+    let len = ap length are ∙ length-map-range_with_len (with_key (origin_unit clauses)
     (origins_of clauses)) 0 count in
-    (len, are ∙ ap (λ n. gathered (unit_at clauses) n (origins_of clauses)) (sym len))
+    (len, are ∙ ap (λ n. gathered (origin_unit clauses) n (origins_of clauses)) (sym len))
 
 module _ (domains : List Domain) (all : List Instance) (names : List Name) (place : ℕ) (d : Name)
     (inside : place < length names) where

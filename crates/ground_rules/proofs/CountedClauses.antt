@@ -3,9 +3,9 @@ use Rattle.std.proofs.Common.{◌≡◌, ℕ, ◌+◌, ◌*◌, ◌<◌, ◌≤�
 use Rattle.std.proofs.Common.{get_or, sum_by, subst, sym, ◌∙◌, ap, ap₂, arith, if◌then◌else◌}
 use Rattle.std.proofs.lemmas.List.{length-map, map-append, take_more, get_or-map}
 use Rattle.std.proofs.lemmas.List.Sums.{sum_by-append, get_or-le-sum_by}
-use Rattle.ground_rules.proofs.Caps.{capped_add, capped_add_both, capped_mul_right}
+use Rattle.ground_names.proofs.Caps.{capped_add, capped_add_both, capped_mul_right}
 use Rattle.ground_rules.specs.Assignments.{Clause, assignments, instances}
-use Rattle.ground_rules.specs.Counted.{capped}
+use Rattle.ground_names.specs.Counted.{capped}
 use Rattle.ground_rules.specs.Limits.{assignment_count, rules_in, rule_count, conditions_in}
 use Rattle.ground_rules.specs.Limits.{condition_count, counts_as_rule}
 

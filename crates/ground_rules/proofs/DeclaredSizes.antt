@@ -1,11 +1,9 @@
 -- Numbers of values and of entities are small.
-use Rattle.std.proofs.Common.{◌≡◌, ◌⊎◌, inl, inr, ℕ, zero, suc, ◌<◌, ◌≤◌, ◌^◌, nat_le, Bool, true}
-use Rattle.std.proofs.Common.{false, cond, ◌&&◌, List, [], ◌∷◌, find, length, Option, Some, refl}
-use Rattle.std.proofs.Common.{subst, arith}
+use Rattle.std.proofs.Common.{◌≡◌, ℕ, zero, suc, ◌<◌, ◌≤◌, ◌^◌, nat_le, true, ◌&&◌, List, [], ◌∷◌}
+use Rattle.std.proofs.Common.{length, Some, refl, arith}
 use Rattle.std.specs.List.{list_all}
 use Rattle.std.proofs.lemmas.Bool.{and_parts, leb-true, eqb-true}
 use Rattle.std.proofs.lemmas.List.Quantifiers.{position-Some}
-use Rattle.std.proofs.lemmas.Option.{none-some, same_Some}
 use Rattle.std.specs.Str.{bytes_eq}
 use Rattle.rt_base.specs.Kinds.{is_name, is_constant}
 use Rattle.ground_types.specs.Sound.{is_distinct, are_constants}
@@ -13,30 +11,10 @@ use Rattle.ground_types.specs.declared.program.Domain.{Domain}
 use Rattle.ground_types.specs.declared.program.Name.{Name}
 use Rattle.ground_types.specs.declared.program.NameKind.{NameKind}
 use Rattle.ground_types.specs.declared.program.NameKind.TheVariants as name_kind
-use Rattle.ground_rules.specs.Counted.{has_small_numbers}
-use Rattle.domain_decl.specs.Lists.{place_in}
-use Rattle.domain_decl.specs.Rules.{declaration, entities_of}
-use Rattle.domain_decl.specs.Sound.{is_sound_domain, is_sound_name, has_sound_values}
-
--- ---- what is found is a member
-
-module _ {X : Type 0} (p q : X → Bool) where
-  found_by : (b : Bool) (x y : X) (rest : Option X) → cond b (Some x) rest ≡ Some y → (x ≡ y)
-      ⊎ (rest ≡ Some y)
-  found_by true x y rest e = inl (same_Some x y e)
-  found_by false x y rest e = inr e
-
-  passes_by : (x y : X) (xs : List X) → (x ≡ y) ⊎ (find p xs ≡ Some y)
-      → (find p xs ≡ Some y → list_all q xs ≡ true → q y ≡ true) → (q x && list_all q xs) ≡ true
-      → q y ≡ true
-  passes_by x y xs (inl e) rest all = subst (λ z. q z ≡ true) e (and_parts (q x) (list_all q xs)
-      all).0
-  passes_by x y xs (inr e) rest all = rest e (and_parts (q x) (list_all q xs) all).1
-
-  pub found_passes : (xs : List X) (y : X) → find p xs ≡ Some y → list_all q xs ≡ true → q y ≡ true
-  found_passes [] y e all = absurd (none-some y e)
-  found_passes (x ∷ xs) y e all = passes_by x y xs (found_by (p x) x y (find p xs) e)
-      (found_passes xs y) all
+use Rattle.ground_names.specs.Counted.{has_small_numbers}
+use Rattle.ground_names.proofs.FirstFound.{found_passes}
+use Rattle.ground_types.specs.Words.{place_in, declaration, entities_of}
+use Rattle.decl_known.specs.Sound.{is_sound_domain, is_sound_name, has_sound_values}
 
 -- ---- values
 

@@ -2,8 +2,8 @@
 use Rattle.std.proofs.Common.{◌≡◌, map, refl, sym, ap, ◌∙◌}
 use Rattle.std.specs.Global.{Vec}
 use Rattle.ground_types.specs.declared.program.Expr as expr
-use Rattle.rule_read.specs.declared.form.Tree as tree
-use Rattle.rule_read.specs.Forms.{plain_tree, plain_row}
+use Rattle.rule_forms.specs.declared.form.Tree as tree
+use Rattle.rule_forms.specs.Forms.{plain_tree, plain_row}
 use Rattle.ground_rules.specs.Assignments.{Instance}
 use Rattle.ground_rules.specs.Atoms.{GroundExpression, Union_is, Intersect_is, Complement_is}
 use Rattle.ground_rules.specs.Atoms.{and_more, plain_expr, plain_exprs, ground_expression}
@@ -28,9 +28,9 @@ exprs_of_members : (v : Vec expr.Expr) → plain_exprs (expr_row (expr.Union v))
 exprs_of_members v = let row = expr_row (expr.Union v) in exprs_of_row row.0 row.1
     ∙ ap (λ es. all_of (map plain_expr es)) (expr.items_hidden-the_row-Expr-0 v)
 
-union_of : (v : Vec expr.Expr) → plain_expr (expr.Union v)
+union_is : (v : Vec expr.Expr) → plain_expr (expr.Union v)
     ≡ Union_is (all_of (map plain_expr v.items))
-union_of v = ap Union_is (exprs_of_members v)
+union_is v = ap Union_is (exprs_of_members v)
 
 intersect_of : (v : Vec expr.Expr) → plain_expr (expr.Intersect v)
     ≡ Intersect_is (all_of (map plain_expr v.items))
@@ -79,7 +79,7 @@ module _ (i : Instance) where
 
   pub union_same : (v : Vec expr.Expr) (w : Vec tree.Tree) → map plain_expr v.items
       ≡ map ground_tree w.items → plain_expr (expr.Union v) ≡ ground_tree (tree.Union w)
-  union_same v w same = union_of v ∙ ap (λ es. Union_is (all_of es)) same ∙ sym (ground_union w)
+  union_same v w same = union_is v ∙ ap (λ es. Union_is (all_of es)) same ∙ sym (ground_union w)
 
   pub intersect_same : (v : Vec expr.Expr) (w : Vec tree.Tree) → map plain_expr v.items
       ≡ map ground_tree w.items → plain_expr (expr.Intersect v) ≡ ground_tree (tree.Intersect w)

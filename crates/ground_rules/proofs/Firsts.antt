@@ -1,12 +1,12 @@
 -- Names are numbered one after the other.
-use Rattle.std.proofs.Common.{◌≡◌, ℕ, ◌+◌, ◌≤◌, Bool, true, false, List, [], ◌∷◌, ◌++◌, length}
-use Rattle.std.proofs.Common.{refl, sym, ◌∙◌, ap, arith, append-nil, if◌then◌else◌}
+use Rattle.std.proofs.Common.{◌≡◌, ℕ, ◌+◌, ◌≤◌, Bool, true, false, List, [], ◌∷◌, ◌++◌, length, sym}
+use Rattle.std.proofs.Common.{◌∙◌, ap, arith, append-nil, if◌then◌else◌}
 use Rattle.std.proofs.lemmas.List.{append_assoc}
 use Rattle.std.proofs.lemmas.List.Sums.{sum_by-cons}
 use Rattle.ground_types.specs.Sound.{is_input, arguments_of}
 use Rattle.ground_types.specs.declared.program.Domain.{Domain}
 use Rattle.ground_types.specs.declared.program.Name.{Name}
-use Rattle.ground_rules.specs.Numbers.{with_first, numbered}
+use Rattle.ground_names.specs.Numbers.{with_first, numbered}
 use Rattle.ground_rules.specs.Grounded.{event_count}
 use Rattle.ground_rules.specs.Limits.{unit_count}
 
@@ -16,10 +16,6 @@ pub record AreNumbered (domains : List Domain) (names left : List Name) (made : 
   pub go_on : made ++ numbered domains event unit left ≡ numbered domains 0 0 names
   pub events : event + event_count domains left ≡ event_count domains names
   pub units : unit + unit_count domains left ≡ unit_count domains names
-
-pub none_numbered : (domains : List Domain) (names : List Name) → AreNumbered domains names names
-    [] 0 0
-none_numbered domains names = record { go_on = refl; events = omega arith; units = omega arith }
 
 pub all_numbered : (domains : List Domain) (names made : List Name) (event unit : ℕ)
     → AreNumbered domains names [] made event unit → made ≡ numbered domains 0 0 names

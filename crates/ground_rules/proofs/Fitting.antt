@@ -1,17 +1,17 @@
 -- The rules and expressions of a grounded program fit.
-use Rattle.std.proofs.Common.{◌≡◌, ℕ, zero, suc, ◌+◌, ◌<◌, nat_lt, Bool, true, false, true≢false}
-use Rattle.std.proofs.Common.{not, cond, ◌&&◌, ◌==◌, List, [], ◌∷◌, ◌++◌, map, flat_map, filter}
-use Rattle.std.proofs.Common.{filter_map, find, length, slice_get, option_map, Option, Some, None}
-use Rattle.std.proofs.Common.{refl, sym, ap, subst, ◌∙◌, arith}
+use Rattle.std.proofs.Common.{◌≡◌, ℕ, zero, suc, ◌+◌, ◌<◌, nat_lt, Bool, true, false, not, cond}
+use Rattle.std.proofs.Common.{◌&&◌, ◌==◌, List, [], ◌∷◌, ◌++◌, map, flat_map, filter, filter_map}
+use Rattle.std.proofs.Common.{find, length, slice_get, option_map, Option, Some, None, refl, sym}
+use Rattle.std.proofs.Common.{ap, subst, ◌∙◌, arith}
+use Rattle.std.proofs.lemmas.Bool.{and_from, eqb-true, eq-eqb, lt-ltb}
 use Rattle.std.specs.List.{list_all, range_with_len}
-use Rattle.std.proofs.lemmas.Bool.Decides.{nat_tests}
 use Rattle.std.proofs.lemmas.List.{length-map}
 use Rattle.std.proofs.lemmas.List.FromFn.{length-range_with_len}
 use Rattle.std.proofs.lemmas.Option.{slice_get-map, none-some, same_Some}
 use Rattle.ground_types.specs.Members.{contains}
 use Rattle.ground_types.specs.Publication.{value_count}
-use Rattle.ground_types.specs.Sound.{is_input, unit_values, trigger_fits, what_fits, rule_fits}
-use Rattle.ground_types.specs.Sound.{expr_fits, is_union, initial_fits, kind_fits}
+use Rattle.ground_types.specs.Sound.{unit_values, trigger_fits, what_fits, rule_fits, expr_fits}
+use Rattle.ground_types.specs.Sound.{is_union, initial_fits, kind_fits}
 use Rattle.ground_types.specs.declared.program.Domain.{Domain}
 use Rattle.ground_types.specs.declared.program.Name.{Name}
 use Rattle.ground_types.specs.declared.program.NameKind.{NameKind}
@@ -23,17 +23,18 @@ use Rattle.ground_types.specs.declared.program.Unit.{Unit}
 use Rattle.ground_types.specs.declared.program.UnitKind.{UnitKind}
 use Rattle.ground_types.specs.declared.program.UnitKind.TheVariants as unit_kind
 use Rattle.ground_types.specs.declared.program.Program.{Program}
-use Rattle.rule_read.specs.declared.form.Fv.{Fv}
-use Rattle.rule_read.specs.declared.form.Body.{Body}
-use Rattle.rule_read.specs.declared.form.Body.TheVariants as body
-use Rattle.rule_read.specs.Forms.{Expression, Expressions, Value_of, Union_of, Intersect_of}
-use Rattle.rule_read.specs.Forms.{Complement_of, none, more, PlainForm, Initiated, Terminated}
-use Rattle.rule_read.specs.Forms.{Happens, HoldsFor}
-use Rattle.rule_read.specs.Sound.{AllOf, IsSoundForm, IsSoundExpression, AreSoundMembers}
-use Rattle.rule_read.specs.Sound.{AreSoundOthers}
-use Rattle.domain_decl.specs.Mentions.{SimpleFluent, fits, fluent_value, body_mentions, leaves}
-use Rattle.domain_decl.specs.Mentions.{leaves_of_all, mentions}
-use Rattle.ground_rules.specs.Numbers.{numbered}
+use Rattle.rule_forms.specs.declared.form.Fv.{Fv}
+use Rattle.rule_forms.specs.declared.form.Body.{Body}
+use Rattle.rule_forms.specs.declared.form.Body.TheVariants as body
+use Rattle.rule_forms.specs.Forms.{Expression, Expressions, Value_of, Union_of, Intersect_of}
+use Rattle.rule_forms.specs.Forms.{Complement_of, none, more, PlainForm, Initiated, Terminated}
+use Rattle.rule_forms.specs.Forms.{Happens, HoldsFor}
+use Rattle.rule_forms.specs.Sound.{AllOf, IsSoundForm, IsSoundExpression, AreSoundMembers}
+use Rattle.rule_forms.specs.Sound.{AreSoundOthers}
+use Rattle.decl_known.proofs.Anys.{three}
+use Rattle.decl_known.specs.Mentions.{SimpleFluent, fluent_value, body_mentions, leaves}
+use Rattle.decl_known.specs.Mentions.{leaves_of_all, mentions}
+use Rattle.ground_names.specs.Numbers.{numbered}
 use Rattle.ground_rules.specs.Assignments.{Instance}
 use Rattle.ground_rules.specs.Atoms.{GroundExpression, plain_expr, ground_atom, ground_value}
 use Rattle.ground_rules.specs.Atoms.{ground_event, ground_condition, head_unit, head_value}
@@ -42,7 +43,8 @@ use Rattle.ground_rules.specs.Grounded.{PlainKind, Simple_is, Static_is, Derived
 use Rattle.ground_rules.specs.Grounded.{plain_unit, opening_by, initiation_by, termination_by}
 use Rattle.ground_rules.specs.Grounded.{occurrence_by, expression_by, opening_of, union_for}
 use Rattle.ground_rules.specs.Grounded.{kind_by, instances_at, units_of, event_count}
-use Rattle.ground_rules.proofs.Members.{both, all_weaker, all_front, all_back, all_map, all_filter}
+use Rattle.decl_known.proofs.ComputedKinds.{simple_computed}
+use Rattle.ground_rules.proofs.Members.{all_weaker, all_front, all_back, all_map, all_filter}
 use Rattle.ground_rules.proofs.Members.{all_passing, all_filter_map, each_of_flat_map, all_places}
 use Rattle.ground_rules.proofs.Members.{list_all_from}
 use Rattle.ground_rules.proofs.Places.{range_below}
@@ -50,7 +52,7 @@ use Rattle.ground_rules.proofs.Mentioned.{Grounds, IsGround}
 use Rattle.ground_rules.proofs.UnitsAt.{unit_found}
 use Rattle.ground_rules.proofs.GroundExpressions.{count_of, ground_fits, all_fit, is_union_of}
 use Rattle.ground_rules.proofs.GroundExpressions.{expr_same, union_same, some_count, all_of_fit}
-use Rattle.ground_rules.proofs.NamedUnits.{below, named_unit, value_below, fluent_fits, event_fits}
+use Rattle.ground_rules.proofs.NamedUnits.{named_unit, value_below, fluent_fits, event_fits}
 use Rattle.ground_rules.proofs.NamedUnits.{condition_fits}
 
 -- ---- parts of plain units
@@ -75,21 +77,6 @@ abbrev rules_in : PlainKind → List Rule
 rules_in (Derived_is rules) = rules
 rules_in kind = []
 
-simple_computed : (kind : NameKind) → fits SimpleFluent kind ≡ true → is_input kind ≡ false
-simple_computed name_kind.Input e = absurd (true≢false (sym e))
-simple_computed name_kind.Simple e = refl
-simple_computed name_kind.Static e = refl
-simple_computed name_kind.Derived e = refl
-
-same_number : (n m : ℕ) → (n == m) ≡ true → n ≡ m
-same_number n m e = grind (arith, nat_tests)
-
-equal_number : (n m : ℕ) → n ≡ m → (n == m) ≡ true
-equal_number n m e = grind (arith, nat_tests)
-
-three : (a b c : Bool) → a ≡ true → b ≡ true → c ≡ true → (a && b && c) ≡ true
-three a b c x y z = rw (x, y, z) refl
-
 each_of_map : {A B : Type 0} (P : B → Type 0) (f : A → B) (xs : List A) → AllOf P (map f xs)
     → AllOf (λ x. P (f x)) xs
 each_of_map P f [] all = tt
@@ -112,7 +99,7 @@ opening_fits values mine (Some v) e =
     let lt : v < 0 + values = found_member (λ n. n < 0 + values)
     (contains (filter_map (λ i. opening_by i i.clause.form) mine)) (range_with_len 0 values) v
     (range_below 0 values) e in
-    below v values (omega (arith, lt))
+    lt-ltb v values (omega (arith, lt))
 
 module _ (program : Program) (domains : List Domain) (declared : List Name) (all : List Instance)
     (units : map plain_unit program.units ≡ units_of domains (numbered domains 0 0 declared) all)
@@ -180,11 +167,11 @@ module _ (program : Program) (domains : List Domain) (declared : List Name) (all
       expression_fits (suc depth) (Union_of es) sound ground =
           others_fit depth es (some_members depth es sound).1 ground
       expression_fits (suc depth) (Intersect_of es) sound ground =
-          both (not (count_of (ground_expressions i es) == 0))
+          and_from (not (count_of (ground_expressions i es) == 0))
           (all_fit program (ground_expressions i es)) (some_members depth es sound).0
           (others_fit depth es (some_members depth es sound).1 ground)
       expression_fits (suc depth) (Complement_of e es) sound ground =
-          both (ground_fits program (ground_expression i e))
+          and_from (ground_fits program (ground_expression i e))
           (all_fit program (ground_expressions i es))
           (expression_fits depth e sound.0 (all_front (Grounds domains names i) (leaves e)
           (leaves_of_all es) ground))
@@ -196,7 +183,7 @@ module _ (program : Program) (domains : List Domain) (declared : List Name) (all
           → all_fit program (ground_expressions i es) ≡ true
       others_fit depth none sound ground = refl
       others_fit depth (more e es) sound ground =
-          both (ground_fits program (ground_expression i e))
+          and_from (ground_fits program (ground_expression i e))
           (all_fit program (ground_expressions i es))
           (expression_fits depth e sound.0 (all_front (Grounds domains names i) (leaves e)
           (leaves_of_all es) ground))
@@ -217,7 +204,7 @@ module _ (program : Program) (domains : List Domain) (declared : List Name) (all
         head ∙ here) in
         let values : length g.name.values ≡ unit_values program unit = sym u.values
         ∙ ap (unit_values program) same in
-        below (ground_value i fv) (unit_values program unit)
+        lt-ltb (ground_value i fv) (unit_values program unit)
         (subst (λ n. ground_value i fv < n) values (value_below program domains declared all units
         named events i names_are fv SimpleFluent g))
 
@@ -283,7 +270,7 @@ module _ (program : Program) (domains : List Domain) (declared : List Name) (all
         (λ i. (rule : Rule) → initiation_by i i.clause.form ≡ Some rule
         → rule_fits program (unit_values program unit) rule ≡ true)
         (λ i h. initiation_made i.clause.domains i.clause.names i.assignment h.0.names_are
-        i.clause.form h.0.mentioned (same_number (head_unit i) k h.1)) (instances_at k all)
+        i.clause.form h.0.mentioned (eqb-true (head_unit i) k h.1)) (instances_at k all)
         (are_heads ground))
 
     terminations_fit : AllOf (IsGround domains names) all
@@ -296,7 +283,7 @@ module _ (program : Program) (domains : List Domain) (declared : List Name) (all
         (λ i. (rule : Rule) → termination_by i i.clause.form ≡ Some rule
         → rule_fits program (unit_values program unit) rule ≡ true)
         (λ i h. termination_made i.clause.domains i.clause.names i.assignment h.0.names_are
-        i.clause.form h.0.mentioned (same_number (head_unit i) k h.1)) (instances_at k all)
+        i.clause.form h.0.mentioned (eqb-true (head_unit i) k h.1)) (instances_at k all)
         (are_heads ground))
 
     occurrences_fit : AllOf (IsGround domains names) all
@@ -365,7 +352,7 @@ module _ (program : Program) (domains : List Domain) (declared : List Name) (all
         let each = each_of_map (λ x. (is_union_of x ≡ true) × (ground_fits program x ≡ true))
         plain_expr exprs plain in
         three (length exprs == unit_values program unit) (list_all is_union exprs)
-        (list_all (expr_fits program) exprs) (equal_number (length exprs)
+        (list_all (expr_fits program) exprs) (eq-eqb (length exprs)
         (unit_values program unit) long)
         (list_all_from is_union exprs
         (all_weaker (λ x. (is_union_of (plain_expr x) ≡ true) × (ground_fits program (plain_expr x)

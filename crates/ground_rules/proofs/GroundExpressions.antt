@@ -1,14 +1,14 @@
 -- Expressions that fit, on the plain expressions.
 use Rattle.std.proofs.Common.{◌≡◌, ℕ, ◌+◌, Bool, true, false, not, ◌&&◌, ◌==◌, List, [], ◌∷◌}
 use Rattle.std.proofs.Common.{slice_get, refl, ap, ap₂, arith}
+use Rattle.std.proofs.lemmas.Bool.{and_from}
 use Rattle.std.proofs.lemmas.Bool.Decides.{nat_tests}
 use Rattle.ground_types.specs.Sound.{is_fluent_value, member_count, expr_fits, members_fit}
 use Rattle.ground_types.specs.Sound.{is_union}
 use Rattle.ground_types.specs.declared.program.Expr.{Expr, Row, Union', Intersect', Complement'}
 use Rattle.ground_types.specs.declared.program.Expr.{Row_of-Expr, end_of-Expr, more_of-Expr}
 use Rattle.ground_types.specs.declared.program.Program.{Program}
-use Rattle.rule_read.specs.Sound.{AllOf}
-use Rattle.ground_rules.proofs.Members.{both}
+use Rattle.rule_forms.specs.Sound.{AllOf}
 use Rattle.ground_rules.specs.Atoms.{GroundExpression, GroundExpressions, Row_is, Union_is}
 use Rattle.ground_rules.specs.Atoms.{Intersect_is, Complement_is, no_more, and_more, plain_expr}
 use Rattle.ground_rules.specs.Atoms.{plain_exprs, all_of}
@@ -65,5 +65,6 @@ some_count n = grind (arith, nat_tests)
 pub all_of_fit : (program : Program) (es : List GroundExpression)
     → AllOf (λ e. ground_fits program e ≡ true) es → all_fit program (all_of es) ≡ true
 all_of_fit program [] all = refl
-all_of_fit program (e ∷ es) all = both (ground_fits program e) (all_fit program (all_of es)) all.0
+all_of_fit program (e ∷ es) all = and_from (ground_fits program e) (all_fit program (all_of es))
+    all.0
     (all_of_fit program es all.1)

@@ -1,9 +1,8 @@
 -- A grounded program has the domains of its description, and its names but for their numbers.
-use Rattle.std.proofs.Common.{◌≡◌, ℕ, ◌+◌, nat_lt, nat_le, Bool, true, false, true≢false, ◌&&◌}
-use Rattle.std.proofs.Common.{◌==◌, List, [], ◌∷◌, ◌++◌, length, map, refl, sym, ap, ap₂, ◌∙◌}
-use Rattle.std.proofs.Common.{arith, if◌then◌else◌}
+use Rattle.std.proofs.Common.{◌≡◌, ℕ, ◌+◌, nat_lt, nat_le, Bool, true, false, ◌&&◌, ◌==◌, List, []}
+use Rattle.std.proofs.Common.{◌∷◌, ◌++◌, length, map, refl, ap, ap₂, ◌∙◌, arith, if◌then◌else◌}
 use Rattle.std.specs.List.{list_all}
-use Rattle.std.proofs.lemmas.Bool.{eqb-true}
+use Rattle.std.proofs.lemmas.Bool.{eqb-true, and_parts}
 use Rattle.std.proofs.lemmas.List.Folds.{list_all-append, list_all-map}
 use Rattle.rt_base.specs.Kinds.{is_name}
 use Rattle.ground_types.specs.Sound.{is_input, arguments_of, is_distinct, are_constants}
@@ -13,11 +12,11 @@ use Rattle.ground_types.specs.declared.program.Name.{Name}
 use Rattle.ground_types.specs.declared.program.NameKind.{NameKind}
 use Rattle.ground_types.specs.declared.program.NameKind.TheVariants as name_kind
 use Rattle.ground_types.specs.declared.program.Program.{Program}
-use Rattle.domain_decl.specs.declared.checked.Checked.{Checked}
-use Rattle.domain_decl.specs.Accepted.{plain_checked}
-use Rattle.domain_decl.specs.Contents.{domain_words, name_words}
-use Rattle.domain_decl.specs.Sound.{is_sound_domain, is_sound_name, has_sound_values, IsSound}
-use Rattle.ground_rules.specs.Numbers.{with_first, numbered}
+use Rattle.decl_known.specs.declared.checked.Checked.{Checked}
+use Rattle.decl_known.specs.Checked.{plain_checked}
+use Rattle.ground_types.specs.Words.{domain_words, name_words}
+use Rattle.decl_known.specs.Sound.{is_sound_domain, is_sound_name, has_sound_values, IsSound}
+use Rattle.ground_names.specs.Numbers.{with_first, numbered}
 use Rattle.ground_rules.specs.Grounded.{PlainProgram, plain_program, grounded}
 
 -- ---- names are numbered, and else left as they are
@@ -45,33 +44,16 @@ numbered_words domains (name ∷ names) event unit =
 
 -- ---- tests
 
-and_left : (a b : Bool) → (a && b) ≡ true → a ≡ true
-and_left true b e = refl
-and_left false b e = e
-
-and_right : (a b : Bool) → (a && b) ≡ true → b ≡ true
-and_right true b e = e
-and_right false b e = absurd (true≢false (sym e))
-
 pub list_all-weaker : {X : Type 0} (p q : X → Bool) → ((x : X) → p x ≡ true → q x ≡ true)
     → (xs : List X) → list_all p xs ≡ true → list_all q xs ≡ true
 list_all-weaker p q weaker [] h = refl
 list_all-weaker p q weaker (x ∷ xs) h =
-    ap₂ ◌&&◌ (weaker x (and_left (p x) (list_all p xs) h)) (list_all-weaker p q weaker xs
-    (and_right (p x) (list_all p xs) h))
+    let both = and_parts (p x) (list_all p xs) h in
+    ap₂ ◌&&◌ (weaker x both.0) (list_all-weaker p q weaker xs both.1)
 
 no_values : (values : List (List ℕ)) → (length values == 0) ≡ true → are_constants values ≡ true
 no_values [] h = refl
 no_values (v ∷ vs) h = let e = eqb-true (length (v ∷ vs)) 0 h in absurd (omega arith)
-
-first_of_three : (a b c : Bool) → (a && b && c) ≡ true → a ≡ true
-first_of_three true b c e = refl
-first_of_three false b c e = e
-
-second_of_three : (a b c : Bool) → (a && b && c) ≡ true → b ≡ true
-second_of_three a true c e = refl
-second_of_three true false c e = e
-second_of_three false false c e = e
 
 first_of_four : (a b c d : Bool) → (a && b && c && d) ≡ true → a ≡ true
 first_of_four true b c d e = refl
@@ -93,10 +75,10 @@ fourth_of_four false b c false e = e
 values_are_constants : (kind : NameKind) (values : List (List ℕ)) → has_sound_values kind values
     ≡ true → are_constants values ≡ true
 values_are_constants name_kind.Input values h = no_values values h
-values_are_constants name_kind.Simple values h = first_of_three (are_constants values)
-    (nat_le 1 (length values)) (nat_le (length values) 64) h
-values_are_constants name_kind.Static values h = first_of_three (are_constants values)
-    (nat_le 1 (length values)) (nat_le (length values) 64) h
+values_are_constants name_kind.Simple values h = (and_parts (are_constants values)
+    (nat_le 1 (length values)) (and_parts _ (nat_le (length values) 64) h).0).0
+values_are_constants name_kind.Static values h = (and_parts (are_constants values)
+    (nat_le 1 (length values)) (and_parts _ (nat_le (length values) 64) h).0).0
 values_are_constants name_kind.Derived values h = no_values values h
 
 module _ (domains : ℕ) (name : Name) (h : is_sound_name domains name ≡ true) where
@@ -117,13 +99,15 @@ module _ (domains : ℕ) (name : Name) (h : is_sound_name domains name ≡ true)
       (list_all (λ d. nat_lt d domains) name.args) (has_sound_values name.kind name.values) h)
 
 module _ (domain : Domain) (h : is_sound_domain domain ≡ true) where
+  both_sound : (is_name domain.word ≡ true) × (are_constants domain.entities ≡ true)
+  both_sound = and_parts (is_name domain.word) (are_constants domain.entities)
+      (and_parts _ (nat_le (length domain.entities) 4096) h).0
+
   domain_word_sound : is_name domain.word ≡ true
-  domain_word_sound = first_of_three (is_name domain.word) (are_constants domain.entities)
-      (nat_le (length domain.entities) 4096) h
+  domain_word_sound = both_sound.0
 
   entities_sound : are_constants domain.entities ≡ true
-  entities_sound = second_of_three (is_name domain.word) (are_constants domain.entities)
-      (nat_le (length domain.entities) 4096) h
+  entities_sound = both_sound.1
 
 -- ---- the words of a grounded program
 

@@ -16,29 +16,27 @@ use Rattle.ground_types.specs.Sound.{is_input, arguments_of}
 use Rattle.ground_types.specs.declared.program.Domain.{Domain}
 use Rattle.ground_types.specs.declared.program.Name.{Name}
 use Rattle.ground_types.specs.declared.program.NameKind.{NameKind}
-use Rattle.ground_types.specs.declared.program.NameKind.TheVariants as name_kind
 use Rattle.ground_types.specs.declared.program.Program.{Program}
-use Rattle.rule_read.specs.Forms.{PlainForm, PlainStatement, plain, Initially, Initiated}
-use Rattle.rule_read.specs.Forms.{Terminated, Happens, HoldsFor}
-use Rattle.rule_read.specs.Sound.{AllOf}
-use Rattle.domain_decl.specs.declared.checked.Checked.{Checked}
-use Rattle.domain_decl.specs.Lists.{has, place_in}
-use Rattle.domain_decl.specs.Contents.{name_words, is_rule}
-use Rattle.domain_decl.specs.Mentions.{SimpleFluent, StaticFluent, DerivedEvent, Mention, fits}
-use Rattle.domain_decl.specs.Mentions.{fluent_value, event_atom, head_of, mentions}
-use Rattle.domain_decl.specs.Accepted.{plain_checked}
-use Rattle.domain_decl.specs.Rules.{declaration}
-use Rattle.domain_decl.specs.Sound.{IsSound as IsSoundChecked}
-use Rattle.strata_check.specs.Occurrences.{defines, body_of, bodies_of, occurs}
-use Rattle.strata_check.specs.Layers.{layer_at, layer_of, greatest, layer_by, IsLayering}
-use Rattle.strata_check.proofs.Marks.{greatest_cons}
-use Rattle.strata_check.proofs.Places.{same_word, equal_word, word_there, word_of_name}
-use Rattle.ground_rules.specs.Numbers.{with_first, numbered}
+use Rattle.rule_forms.specs.Forms.{PlainForm, PlainStatement, plain, Initially, Initiated}
+use Rattle.rule_forms.specs.Forms.{Terminated, Happens, HoldsFor, is_rule}
+use Rattle.rule_forms.specs.Sound.{AllOf}
+use Rattle.decl_known.specs.declared.checked.Checked.{Checked}
+use Rattle.ground_types.specs.Words.{has, place_in, name_words, declaration}
+use Rattle.decl_known.specs.Mentions.{SimpleFluent, StaticFluent, DerivedEvent, Mention, fits}
+use Rattle.decl_known.specs.Mentions.{fluent_value, event_atom, head_of, mentions}
+use Rattle.decl_known.specs.Checked.{plain_checked}
+use Rattle.decl_known.specs.Sound.{IsSound as IsSoundChecked}
+use Rattle.decl_known.specs.Occurrences.{defines, body_of, bodies_of, occurs}
+use Rattle.decl_known.specs.Layers.{layer_at, layer_of, greatest, layer_by, IsLayering}
+use Rattle.decl_known.proofs.Greatest.{greatest_cons}
+use Rattle.word_table.proofs.LookUps.{same_word, equal_word, word_there, word_of_name}
+use Rattle.ground_names.specs.Numbers.{with_first, numbered}
 use Rattle.ground_rules.specs.Assignments.{Clause, Instance, assignments, is_permitted, instances}
 use Rattle.ground_rules.specs.Atoms.{ground_atom, ground_args, unit_by, head_unit}
 use Rattle.ground_rules.specs.Grounded.{PlainUnit, plain_unit, PlainProgram, plain_program}
 use Rattle.ground_rules.specs.Grounded.{instances_at, units_of, greatest_layer, unit_layer}
 use Rattle.ground_rules.specs.Grounded.{clauses_of, numbered_names, clauses, grounded}
+use Rattle.decl_known.proofs.ComputedKinds.{simple_computed, static_computed, derived_computed}
 use Rattle.ground_rules.proofs.Members.{In, member_of, all_members, all_filter, all_map}
 use Rattle.ground_rules.proofs.Members.{all_flat_map, in_front, in_back}
 use Rattle.ground_rules.proofs.InOrder.{keys_in_order}
@@ -121,48 +119,36 @@ record HasUnit (i : Instance) (form : PlainForm) : Type 0 where
   pub unit : unit_by i form ≡ ground_atom i head.atom
   pub computed : (kind : NameKind) → fits head.role kind ≡ true → is_input kind ≡ false
 
-simple_kind : (kind : NameKind) → fits SimpleFluent kind ≡ true → is_input kind ≡ false
-simple_kind name_kind.Input e = absurd (true≢false (sym e))
-simple_kind kind e = refl
-
-static_kind : (kind : NameKind) → fits StaticFluent kind ≡ true → is_input kind ≡ false
-static_kind name_kind.Input e = absurd (true≢false (sym e))
-static_kind kind e = refl
-
-derived_kind : (kind : NameKind) → fits DerivedEvent kind ≡ true → is_input kind ≡ false
-derived_kind name_kind.Input e = absurd (true≢false (sym e))
-derived_kind kind e = refl
-
 has_unit : (i : Instance) (form : PlainForm) → is_rule form ≡ true → HasUnit i form
 has_unit i (Initially fv) is = record {
   head = fluent_value SimpleFluent fv;
   only = refl;
   unit = refl;
-  computed = simple_kind;
+  computed = simple_computed;
 }
 has_unit i (Initiated fv bodies) is = record {
   head = fluent_value SimpleFluent fv;
   only = refl;
   unit = refl;
-  computed = simple_kind;
+  computed = simple_computed;
 }
 has_unit i (Terminated fv bodies) is = record {
   head = fluent_value SimpleFluent fv;
   only = refl;
   unit = refl;
-  computed = simple_kind;
+  computed = simple_computed;
 }
 has_unit i (Happens atom bodies) is = record {
   head = event_atom DerivedEvent atom;
   only = refl;
   unit = refl;
-  computed = derived_kind;
+  computed = derived_computed;
 }
 has_unit i (HoldsFor fv e) is = record {
   head = fluent_value StaticFluent fv;
   only = refl;
   unit = refl;
-  computed = static_kind;
+  computed = static_computed;
 }
 has_unit i form is = absurd (true≢false (sym is))
 

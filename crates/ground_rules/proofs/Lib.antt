@@ -1,5 +1,3 @@
-mod Caps
-mod Ordered
 mod Members
 mod Places
 mod Renumbered
@@ -14,7 +12,7 @@ mod InOrder
 mod PlainUnits
 mod Named
 mod Layering
-mod KeptWords
+pub mod KeptWords
 mod UnitNumbers
 mod OneList
 mod RuleCounts
@@ -22,14 +20,10 @@ mod Firsts
 mod Soundness
 mod Occurring
 mod VariableDomains
-mod Ranks
 mod DeclaredSizes
 mod ArgumentRanks
 mod ExpressionMembers
 mod StatedExpressions
-pub mod SmallNumbers
-mod InputEvents
-mod Led
 mod CountedInstances
 mod CountedClauses
 mod Gathered
@@ -39,5 +33,5 @@ mod FirstGiven
 mod PlainMembers
 mod UnitsBelow
 mod Tested
-mod NumberedNames
-mod ListedInstances
+pub mod NumberedNames
+pub mod ListedInstances

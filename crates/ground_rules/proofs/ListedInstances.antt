@@ -11,13 +11,12 @@ use Rattle.rt_base.specs.declared.limit.Limit.TheVariants as limit
 use Rattle.ground_types.specs.declared.program.Domain.{Domain}
 use Rattle.ground_types.specs.declared.program.Name.{Name}
 use Rattle.ground_types.specs.declared.program.Program.{Program}
-use Rattle.rule_read.specs.declared.syntax.Statement.{Statement}
-use Rattle.rule_read.specs.Forms.{plain}
-use Rattle.rule_read.specs.Sound.{AllOf}
-use Rattle.domain_decl.specs.declared.checked.Checked.{Checked}
-use Rattle.domain_decl.specs.Accepted.{plain_checked}
-use Rattle.domain_decl.specs.Contents.{is_rule}
-use Rattle.domain_decl.specs.Sound.{IsSound, IsSoundRule}
+use Rattle.rule_forms.specs.declared.syntax.Statement.{Statement}
+use Rattle.rule_forms.specs.Forms.{plain, is_rule}
+use Rattle.rule_forms.specs.Sound.{AllOf}
+use Rattle.decl_known.specs.declared.checked.Checked.{Checked}
+use Rattle.decl_known.specs.Checked.{plain_checked}
+use Rattle.decl_known.specs.Sound.{IsSound, IsSoundRule}
 use Rattle.ground_rules.specs.declared.units.Origin.{Origin}
 use Rattle.ground_rules.specs.Assignments.{Clause, Instance, instances}
 use Rattle.ground_rules.specs.Grounded.{clauses_of, clauses, instances_at, plain_unit}

@@ -1,10 +1,10 @@
 -- Facts about each member of a list.
 use Rattle.std.proofs.Common.{◌≡◌, ◌⊎◌, inl, inr, ℕ, zero, suc, Bool, true, false, true≢false, not}
-use Rattle.std.proofs.Common.{cond, ◌||◌, ◌&&◌, List, [], ◌∷◌, ◌++◌, map, flat_map, filter}
-use Rattle.std.proofs.Common.{filter_map, find, slice_get, Option, Some, None, refl, sym, ap, subst}
-use Rattle.std.proofs.Common.{◌∙◌}
+use Rattle.std.proofs.Common.{cond, ◌||◌, List, [], ◌∷◌, ◌++◌, map, flat_map, filter, filter_map}
+use Rattle.std.proofs.Common.{find, slice_get, Option, Some, None, refl, sym, ap, subst, ◌∙◌}
+use Rattle.std.proofs.lemmas.Bool.{and_from, or_left, or_right, or_parts}
 use Rattle.std.specs.List.{list_any, list_all, cons_option}
-use Rattle.rule_read.specs.Sound.{AllOf}
+use Rattle.rule_forms.specs.Sound.{AllOf}
 
 -- the item is a member of the list
 abbrev pub In : {A : Type 0} → A → List A → Type 0
@@ -16,26 +16,6 @@ In x (y ∷ ys) = (y ≡ x) ⊎ In x ys
 pub not_false : (a : Bool) → not a ≡ false → a ≡ true
 not_false true e = refl
 not_false false e = sym e
-
-pub none_left : (a b : Bool) → (a || b) ≡ false → a ≡ false
-none_left true b e = e
-none_left false b e = refl
-
-pub none_right : (a b : Bool) → (a || b) ≡ false → b ≡ false
-none_right true b e = absurd (true≢false e)
-none_right false b e = e
-
-pub both : (a b : Bool) → a ≡ true → b ≡ true → (a && b) ≡ true
-both true b e f = f
-both false b e f = e
-
-pub any_right : (a b : Bool) → b ≡ true → (a || b) ≡ true
-any_right true b e = refl
-any_right false b e = e
-
-pub any_left : (a b : Bool) → a ≡ true → (a || b) ≡ true
-any_left true b e = refl
-any_left false b e = absurd (true≢false (sym e))
 
 -- ---- members
 
@@ -97,14 +77,14 @@ module _ {A : Type 0} where
   pub none_pass : (p : A → Bool) (xs : List A) → list_any p xs ≡ false → AllOf (λ x. p x ≡ false) xs
   none_pass p [] e = tt
   none_pass p (x ∷ xs) e = (
-    none_left (p x) (list_any p xs) e,
-    none_pass p xs (none_right (p x) (list_any p xs) e),
+    (or_parts (p x) (list_any p xs) e).0,
+    none_pass p xs (or_parts (p x) (list_any p xs) e).1,
   )
 
   pub list_all_from : (p : A → Bool) (xs : List A) → AllOf (λ x. p x ≡ true) xs
       → list_all p xs ≡ true
   list_all_from p [] all = refl
-  list_all_from p (x ∷ xs) all = both (p x) (list_all p xs) all.0 (list_all_from p xs all.1)
+  list_all_from p (x ∷ xs) all = and_from (p x) (list_all p xs) all.0 (list_all_from p xs all.1)
 
   pub all_places : (P : A → Type 0) (xs : List A) → ((k : ℕ) (x : A) → slice_get xs k ≡ Some x
       → P x) → AllOf P xs
@@ -114,8 +94,8 @@ module _ {A : Type 0} where
   -- a member that passes the test
   pub some_pass : (p : A → Bool) (xs : List A) (x : A) → In x xs → p x ≡ true → list_any p xs ≡ true
   some_pass p [] x i t = elim i [ ]
-  some_pass p (y ∷ ys) x (inl e) t = any_left (p y) (list_any p ys) (ap p e ∙ t)
-  some_pass p (y ∷ ys) x (inr i) t = any_right (p y) (list_any p ys) (some_pass p ys x i t)
+  some_pass p (y ∷ ys) x (inl e) t = or_left (p y) (list_any p ys) (ap p e ∙ t)
+  some_pass p (y ∷ ys) x (inr i) t = or_right (p y) (list_any p ys) (some_pass p ys x i t)
 
   pub in_front : (x : A) (xs ys : List A) → In x xs → In x (xs ++ ys)
   in_front x [] ys i = elim i [ ]

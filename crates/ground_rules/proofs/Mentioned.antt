@@ -3,6 +3,7 @@ use Rattle.std.proofs.Common.{◌≡◌, ℕ, ◌+◌, ◌<◌, Bool, true, fals
 use Rattle.std.proofs.Common.{◌∷◌, map, flat_map, filter_map, length, get_or, zip, slice_get}
 use Rattle.std.proofs.Common.{option_map, Option, Some, None, refl, sym, ap, subst, ◌∙◌, arith}
 use Rattle.std.proofs.Common.{if◌then◌else◌}
+use Rattle.std.proofs.lemmas.Bool.{or_parts}
 use Rattle.std.specs.List.{AllZip, list_any}
 use Rattle.std.proofs.lemmas.Bool.Decides.{nat_tests}
 use Rattle.std.proofs.lemmas.List.{length-map}
@@ -11,25 +12,26 @@ use Rattle.std.proofs.lemmas.Option.{none-some, slice_get-map, get_or_from_slice
 use Rattle.ground_types.specs.Sound.{arguments_of, domain_sizes, entity_count}
 use Rattle.ground_types.specs.declared.program.Domain.{Domain}
 use Rattle.ground_types.specs.declared.program.Name.{Name}
-use Rattle.rule_read.specs.declared.form.Term.{Term}
-use Rattle.rule_read.specs.declared.form.Term.TheVariants as term
-use Rattle.rule_read.specs.declared.syntax.Statement.{Statement}
-use Rattle.rule_read.specs.Forms.{PlainForm, plain, plain_form}
-use Rattle.rule_read.specs.Sound.{AllOf, IsSoundForm}
-use Rattle.domain_decl.specs.declared.checked.Checked.{Checked}
-use Rattle.domain_decl.specs.declared.checked.DeclRefused.TheVariants as refused
-use Rattle.domain_decl.specs.Lists.{has, place_in, Fault, first_fault}
-use Rattle.domain_decl.specs.Contents.{name_words, is_rule}
-use Rattle.domain_decl.specs.Mentions.{Mention, fits, mentions, variable_in}
-use Rattle.domain_decl.specs.Rules.{declaration, entities_of, entities_in, has_too_many}
-use Rattle.domain_decl.specs.Rules.{lacks_trigger, names_undeclared, has_loose_variable}
-use Rattle.domain_decl.specs.Rules.{is_of_wrong_kind, has_wrong_arity, has_undeclared_word}
-use Rattle.domain_decl.specs.Rules.{has_clash, differs_in_kind, differs_in_arity, differs_in_word}
-use Rattle.domain_decl.specs.Rules.{is_foreign, lacks_value, variable_at, places_by, rule_fault}
-use Rattle.domain_decl.specs.Accepted.{plain_checked}
-use Rattle.domain_decl.specs.Sound.{IsSound as IsSoundChecked, IsSoundRule}
-use Rattle.domain_decl.proofs.LookUps.{declaration_by_place, no_declaration_by_place}
-use Rattle.ground_rules.specs.Numbers.{numbered}
+use Rattle.rule_forms.specs.declared.form.Term.{Term}
+use Rattle.rule_forms.specs.declared.form.Term.TheVariants as term
+use Rattle.rule_forms.specs.declared.syntax.Statement.{Statement}
+use Rattle.rule_forms.specs.Forms.{PlainForm, plain, plain_form, is_rule}
+use Rattle.rule_forms.specs.Sound.{AllOf, IsSoundForm}
+use Rattle.decl_known.specs.declared.checked.Checked.{Checked}
+use Rattle.decl_known.specs.declared.checked.DeclRefused.TheVariants as refused
+use Rattle.ground_types.specs.Words.{has, place_in, name_words, declaration, entities_of}
+use Rattle.ground_types.specs.Words.{entities_in}
+use Rattle.decl_known.specs.Faults.{Fault, first_fault}
+use Rattle.decl_known.specs.Mentions.{Mention, fits, mentions, variable_in}
+use Rattle.decl_known.specs.Rules.{has_too_many, lacks_trigger, names_undeclared}
+use Rattle.decl_known.specs.Rules.{has_loose_variable, is_of_wrong_kind, has_wrong_arity}
+use Rattle.decl_known.specs.Rules.{has_undeclared_word, has_clash, differs_in_kind}
+use Rattle.decl_known.specs.Rules.{differs_in_arity, differs_in_word, is_foreign, lacks_value}
+use Rattle.decl_known.specs.Rules.{variable_at, places_by, rule_fault}
+use Rattle.decl_known.specs.Checked.{plain_checked}
+use Rattle.decl_known.specs.Sound.{IsSound as IsSoundChecked, IsSoundRule}
+use Rattle.word_table.proofs.LookUps.{declaration_by_place, no_declaration_by_place}
+use Rattle.ground_names.specs.Numbers.{numbered}
 use Rattle.ground_rules.specs.Assignments.{Clause, Instance, variables_of, domain_of}
 use Rattle.ground_rules.specs.Assignments.{variable_sizes, assignments, entity_at, entity_of}
 use Rattle.ground_rules.specs.Assignments.{is_permitted, instances}
@@ -38,7 +40,6 @@ use Rattle.ground_rules.specs.Atoms.{value_in}
 use Rattle.ground_rules.specs.Grounded.{clauses_of, numbered_names, clauses}
 use Rattle.ground_rules.proofs.Members.{member_of, all_members, all_weaker, all_map, all_flat_map}
 use Rattle.ground_rules.proofs.Members.{all_filter, each_of_flat_map, none_pass, not_false}
-use Rattle.ground_rules.proofs.Members.{none_left, none_right}
 use Rattle.ground_rules.proofs.Places.{word_place, argument_lists_below, arguments_place}
 use Rattle.ground_rules.proofs.Renumbered.{same_kinds, same_arities, same_undeclared, same_clash}
 use Rattle.ground_rules.proofs.VariablePlaces.{AreVariables, variables_among, domain_at_places}
@@ -203,9 +204,9 @@ module _ (domains : List Domain) (names : List Name) (form : PlainForm) where
     args_inside [] (d ∷ ds) long known at among = absurd (omega arith)
     args_inside (t ∷ ts) [] long known at among = absurd (omega arith)
     args_inside (term.Entity word ∷ ts) (d ∷ ds) long known at among = (
-      constant_inside word d (none_left (is_foreign domains (term.Entity word) d) _ known),
-      args_inside ts ds (omega arith) (none_right (is_foreign domains (term.Entity word) d) _
-          known) at among,
+      constant_inside word d (or_parts (is_foreign domains (term.Entity word) d) _ known).0,
+      args_inside ts ds (omega arith) (or_parts (is_foreign domains (term.Entity word) d) _
+          known).1 at among,
     )
     args_inside (term.Variable word ∷ ts) (d ∷ ds) long known at among = (
       subst (λ e. entity_of i word < entity_count (slice_get domains e)) at.0
@@ -222,12 +223,11 @@ module _ (domains : List Domain) (names : List Name) (form : PlainForm) where
     grounds_by m (Some name) e kind arity words at among =
         let placed = placed_by names m.atom.name name e (place_in (name_words names) m.atom.name)
         refl in
-        let valued = none_left (lacks_value name m.value)
+        let parts = or_parts (lacks_value name m.value)
         (list_any (λ (place : Term × ℕ). is_foreign domains place.0 place.1)
         (zip m.atom.args name.args)) words in
-        let known = none_right (lacks_value name m.value)
-        (list_any (λ (place : Term × ℕ). is_foreign domains place.0 place.1)
-        (zip m.atom.args name.args)) words in
+        let valued = parts.0 in
+        let known = parts.1 in
         let long = same_length (length m.atom.args) (length name.args) arity in
         let found = arguments_place (ground_args i name m.atom.args)
         (domain_sizes domains name.args) (args_inside m.atom.args name.args long known at among)

@@ -13,25 +13,26 @@ use Rattle.ground_types.specs.declared.program.NameKind.{NameKind}
 use Rattle.ground_types.specs.declared.program.NameKind.TheVariants as name_kind
 use Rattle.ground_types.specs.declared.program.Trigger.TheVariants as trigger
 use Rattle.ground_types.specs.declared.program.Rule.{Rule}
-use Rattle.rule_read.specs.declared.form.Atom.{Atom}
-use Rattle.rule_read.specs.declared.form.Fv.{Fv}
-use Rattle.rule_read.specs.declared.form.EventText.{EventText}
-use Rattle.rule_read.specs.declared.form.EventText.TheVariants as event
-use Rattle.rule_read.specs.declared.form.Body.{Body}
-use Rattle.rule_read.specs.declared.form.Body.TheVariants as body
-use Rattle.rule_read.specs.Forms.{Expression, Expressions, Value_of, Union_of, Intersect_of}
-use Rattle.rule_read.specs.Forms.{Complement_of, none, more, PlainForm, Initiated, Terminated}
-use Rattle.rule_read.specs.Forms.{Happens, HoldsFor}
-use Rattle.domain_decl.specs.Mentions.{AnyFluent, AnyEvent, Mention, fits, fluent_value, event_atom}
-use Rattle.domain_decl.specs.Mentions.{event_mention, body_mentions, leaves, leaves_of_all}
-use Rattle.domain_decl.specs.Mentions.{conditions_of, leaves_of}
-use Rattle.domain_decl.specs.Rules.{declaration}
+use Rattle.rule_forms.specs.declared.form.Atom.{Atom}
+use Rattle.rule_forms.specs.declared.form.Fv.{Fv}
+use Rattle.rule_forms.specs.declared.form.EventText.{EventText}
+use Rattle.rule_forms.specs.declared.form.EventText.TheVariants as event
+use Rattle.rule_forms.specs.declared.form.Body.{Body}
+use Rattle.rule_forms.specs.declared.form.Body.TheVariants as body
+use Rattle.rule_forms.specs.Forms.{Expression, Expressions, Value_of, Union_of, Intersect_of}
+use Rattle.rule_forms.specs.Forms.{Complement_of, none, more, PlainForm, Initiated, Terminated}
+use Rattle.rule_forms.specs.Forms.{Happens, HoldsFor, conditions_of}
+use Rattle.decl_known.specs.Mentions.{AnyFluent, AnyEvent, Mention, fits, fluent_value, event_atom}
+use Rattle.decl_known.specs.Mentions.{event_mention, body_mentions, leaves, leaves_of_all}
+use Rattle.decl_known.specs.Mentions.{leaves_of}
+use Rattle.ground_types.specs.Words.{declaration}
 use Rattle.ground_rules.specs.Assignments.{Instance}
 use Rattle.ground_rules.specs.Atoms.{ground_atom, event_by, ground_event, ground_condition}
 use Rattle.ground_rules.specs.Atoms.{ground_rule, head_value, GroundExpression, ground_expression}
 use Rattle.ground_rules.specs.Atoms.{ground_expressions, all_of}
 use Rattle.ground_rules.specs.Grounded.{initiation_by, termination_by, occurrence_by, expression_by}
 use Rattle.ground_rules.specs.Grounded.{union_for, kind_by}
+use Rattle.decl_known.proofs.ComputedKinds.{fluent_computed}
 use Rattle.ground_rules.proofs.Members.{In, in_front, in_back}
 use Rattle.ground_rules.proofs.PlainUnits.{units_in, units_in_all, units_in_kind}
 
@@ -112,12 +113,6 @@ named_back i ms others n is = record {
   computed = is.computed;
 }
 
-fluent_kind : (kind : NameKind) → fits AnyFluent kind ≡ true → is_input kind ≡ false
-fluent_kind name_kind.Input e = absurd (true≢false (sym e))
-fluent_kind name_kind.Simple e = refl
-fluent_kind name_kind.Static e = refl
-fluent_kind name_kind.Derived e = absurd (true≢false (sym e))
-
 only_one : (x n : ℕ) → contains (x ∷ []) n ≡ true → n ≡ x
 only_one x n is = elim (first_or_rest x [] n is) [
   | inl e ↦ sym e
@@ -130,7 +125,7 @@ fluent_named i fv n is = record {
   mention = fluent_value AnyFluent fv;
   among = inl refl;
   is = only_one (ground_atom i fv.atom) n is;
-  computed = λ name declared fit. fluent_kind name.kind fit;
+  computed = λ name declared fit. fluent_computed name.kind fit;
 }
 
 atom_named : (i : Instance) (atom : Atom) (n : ℕ) (o : Option Name)

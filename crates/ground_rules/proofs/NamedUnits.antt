@@ -1,8 +1,8 @@
 -- The units and events of a program that atoms of instances name.
 use Rattle.std.proofs.Common.{◌≡◌, ℕ, ◌+◌, ◌<◌, nat_lt, Bool, true, false, true≢false, not, List}
 use Rattle.std.proofs.Common.{map, length, slice_get, option_map, Option, Some, None, refl, sym, ap}
-use Rattle.std.proofs.Common.{subst, ◌∙◌, arith, if◌then◌else◌}
-use Rattle.std.proofs.lemmas.Bool.Decides.{nat_tests}
+use Rattle.std.proofs.Common.{subst, ◌∙◌, if◌then◌else◌}
+use Rattle.std.proofs.lemmas.Bool.{and_from, lt-ltb}
 use Rattle.std.proofs.lemmas.Option.{slice_get-map, none-some, same_Some}
 use Rattle.ground_types.specs.Publication.{value_count}
 use Rattle.ground_types.specs.Sound.{is_input, is_fluent, unit_values, is_fluent_value}
@@ -17,23 +17,23 @@ use Rattle.ground_types.specs.declared.program.Unit.{Unit}
 use Rattle.ground_types.specs.declared.program.UnitKind.{UnitKind}
 use Rattle.ground_types.specs.declared.program.UnitKind.TheVariants as unit_kind
 use Rattle.ground_types.specs.declared.program.Program.{Program}
-use Rattle.rule_read.specs.declared.form.Atom.{Atom}
-use Rattle.rule_read.specs.declared.form.Fv.{Fv}
-use Rattle.rule_read.specs.declared.form.EventText.{EventText}
-use Rattle.rule_read.specs.declared.form.EventText.TheVariants as event
-use Rattle.rule_read.specs.declared.form.Body.{Body}
-use Rattle.rule_read.specs.declared.form.Body.TheVariants as body
-use Rattle.rule_read.specs.Sound.{AllOf}
-use Rattle.domain_decl.specs.Mentions.{AnyEvent, AnyFluent, Role, Mention, fits, fluent_value}
-use Rattle.domain_decl.specs.Mentions.{event_atom, event_mention, body_mentions}
-use Rattle.domain_decl.specs.Rules.{declaration}
-use Rattle.ground_rules.specs.Numbers.{numbered}
+use Rattle.rule_forms.specs.declared.form.Atom.{Atom}
+use Rattle.rule_forms.specs.declared.form.Fv.{Fv}
+use Rattle.rule_forms.specs.declared.form.EventText.{EventText}
+use Rattle.rule_forms.specs.declared.form.EventText.TheVariants as event
+use Rattle.rule_forms.specs.declared.form.Body.{Body}
+use Rattle.rule_forms.specs.declared.form.Body.TheVariants as body
+use Rattle.rule_forms.specs.Sound.{AllOf}
+use Rattle.decl_known.specs.Mentions.{AnyEvent, AnyFluent, Role, Mention, fits, fluent_value}
+use Rattle.decl_known.specs.Mentions.{event_atom, event_mention, body_mentions}
+use Rattle.ground_types.specs.Words.{declaration}
+use Rattle.ground_names.specs.Numbers.{numbered}
 use Rattle.ground_rules.specs.Assignments.{Instance}
 use Rattle.ground_rules.specs.Atoms.{ground_atom, ground_args, value_in, ground_value, event_by}
 use Rattle.ground_rules.specs.Atoms.{ground_event, ground_condition}
 use Rattle.ground_rules.specs.Grounded.{PlainKind, Derived_is, plain_kind, PlainUnit, plain_unit}
 use Rattle.ground_rules.specs.Grounded.{kind_by, instances_at, units_of, event_count}
-use Rattle.ground_rules.proofs.Members.{both}
+use Rattle.decl_known.proofs.ComputedKinds.{fluent_computed}
 use Rattle.ground_rules.proofs.Mentioned.{Grounds}
 use Rattle.ground_rules.proofs.UnitsAt.{unit_of, unit_at, event_at}
 
@@ -46,12 +46,6 @@ pub fluent_same : (kind : UnitKind) → is_fluent kind ≡ is_fluent_kind (plain
 fluent_same (unit_kind.Simple initially initiate terminate) = refl
 fluent_same (unit_kind.Static exprs) = refl
 fluent_same (unit_kind.Derived rules) = refl
-
-fluent_computed : (kind : NameKind) → fits AnyFluent kind ≡ true → is_input kind ≡ false
-fluent_computed name_kind.Input e = absurd (true≢false (sym e))
-fluent_computed name_kind.Simple e = refl
-fluent_computed name_kind.Static e = refl
-fluent_computed name_kind.Derived e = refl
 
 fluent_by : (kind : NameKind) (values : ℕ) (mine : List Instance) → fits AnyFluent kind ≡ true
     → is_fluent_kind (kind_by kind values mine) ≡ true
@@ -66,9 +60,6 @@ derived_by name_kind.Input values mine e = refl
 derived_by name_kind.Simple values mine e = absurd (true≢false (sym e))
 derived_by name_kind.Static values mine e = absurd (true≢false (sym e))
 derived_by name_kind.Derived values mine e = refl
-
-pub below : (n m : ℕ) → n < m → nat_lt n m ≡ true
-below n m lt = grind (arith, nat_tests)
 
 -- the unit of a program that has a number and is, as plain data, this
 unit_behind : (units : List Unit) (plain : List PlainUnit) (k : ℕ) (one : PlainUnit)
@@ -144,9 +135,9 @@ module _ (program : Program) (domains : List Domain) (declared : List Name) (all
         ∙ fluent_by g.name.kind (length g.name.values) (instances_at (ground_atom i fv.atom) all)
         g.kind in
         ap (λ o. is_fluent_value program o (ground_value i fv)) u.at
-        ∙ both (is_fluent u.unit.kind) (nat_lt (ground_value i fv) (unit_values program u.unit))
+        ∙ and_from (is_fluent u.unit.kind) (nat_lt (ground_value i fv) (unit_values program u.unit))
         fluent
-        (below (ground_value i fv) (unit_values program u.unit) (subst (λ n. ground_value i fv < n)
+        (lt-ltb (ground_value i fv) (unit_values program u.unit) (subst (λ n. ground_value i fv < n)
         (sym u.values) lt))
 
     plain_fits : (atom : Atom) (g : Grounds domains names i (event_atom AnyEvent atom)) (b : Bool)
@@ -154,7 +145,7 @@ module _ (program : Program) (domains : List Domain) (declared : List Name) (all
         → trigger_fits program (if b then trigger.Event (ground_atom i atom)
         else trigger.Derived (ground_atom i atom)) ≡ true
     plain_fits atom g true e =
-        below (ground_atom i atom) program.events
+        lt-ltb (ground_atom i atom) program.events
         (subst (λ n. ground_atom i atom < n) (sym events)
         (subst (λ n. n < event_count domains declared) (sym g.atom) (event_at domains declared
         all g.place g.name g.number g.at e g.inside)))

@@ -2,7 +2,7 @@
 use Rattle.std.proofs.Common.{◌≡◌, ℕ, ◌+◌, ◌≤◌, ◌<◌, ◌^◌, Bool, true, false, ◌&&◌, nat_lt, List, []}
 use Rattle.std.proofs.Common.{◌∷◌, ◌++◌, length, map, flat_map, None, refl, subst, ap, ◌∙◌, arith}
 use Rattle.std.proofs.Common.{if◌then◌else◌}
-use Rattle.std.proofs.lemmas.Bool.{lt-ltb}
+use Rattle.std.proofs.lemmas.Bool.{lt-ltb, and_from}
 use Rattle.std.proofs.lemmas.List.{length-map}
 use Rattle.std.proofs.lemmas.List.Sums.{sum_by-cons}
 use Rattle.std.specs.List.{list_all}
@@ -10,13 +10,13 @@ use Rattle.rt_base.specs.declared.limit.Limit.TheVariants as limit
 use Rattle.ground_types.specs.Sound.{is_input, arguments_of, is_distinct}
 use Rattle.ground_types.specs.declared.program.Domain.{Domain}
 use Rattle.ground_types.specs.declared.program.Name.{Name}
-use Rattle.domain_decl.specs.declared.checked.Checked.{Checked}
-use Rattle.domain_decl.specs.Accepted.{plain_checked}
-use Rattle.domain_decl.specs.Contents.{domain_words, name_words}
-use Rattle.domain_decl.specs.Sound.{is_sound_name, IsSound}
-use Rattle.ground_rules.specs.Numbers.{numbered}
-use Rattle.ground_rules.specs.Counted.{has_small_numbers}
-use Rattle.ground_rules.specs.Declarations.{AreDeclarations}
+use Rattle.decl_known.specs.declared.checked.Checked.{Checked}
+use Rattle.decl_known.specs.Checked.{plain_checked}
+use Rattle.ground_types.specs.Words.{domain_words, name_words}
+use Rattle.decl_known.specs.Sound.{is_sound_name, IsSound}
+use Rattle.ground_names.specs.Numbers.{numbered}
+use Rattle.ground_names.specs.Counted.{has_small_numbers}
+use Rattle.ground_rules.specs.NumberedDeclarations.{AreDeclarations}
 use Rattle.ground_rules.specs.Grounded.{plain_unit, units_of, clauses, event_count, numbered_names}
 use Rattle.ground_rules.specs.Assignments.{instances}
 use Rattle.ground_types.specs.declared.program.Unit.{Unit}
@@ -26,10 +26,6 @@ use Rattle.ground_rules.specs.Origins.{has_units_below}
 use Rattle.ground_rules.proofs.KeptWords.{all_numbered, numbered_words}
 use Rattle.ground_rules.proofs.Tested.{first_within}
 use Rattle.ground_rules.proofs.UnitsBelow.{numbered_below}
-
-both : (a b : Bool) → a ≡ true → b ≡ true → (a && b) ≡ true
-both true b e f = f
-both false b e f = e
 
 module _ (domains : List Domain) where
   small_by : (input : Bool) (name : Name) (names : List Name) (event unit : ℕ)
@@ -44,14 +40,14 @@ module _ (domains : List Domain) where
       (numbered domains (if input then event + length (arguments_of domains name) else event)
       (if input then unit else unit + length (arguments_of domains name)) names)) ≡ true
   small_by true name names event unit events units rest =
-      both (nat_lt (event + length (arguments_of domains name)) (2 ^ 32))
+      and_from (nat_lt (event + length (arguments_of domains name)) (2 ^ 32))
       (list_all (has_small_numbers domains)
       (numbered domains (event + length (arguments_of domains name)) unit names))
       (lt-ltb (event + length (arguments_of domains name)) (2 ^ 32) (omega (arith, events)))
       (rest (event + length (arguments_of domains name)) unit (omega (arith, events))
       (omega (arith, units)))
   small_by false name names event unit events units rest =
-      both (nat_lt (unit + length (arguments_of domains name)) (2 ^ 32))
+      and_from (nat_lt (unit + length (arguments_of domains name)) (2 ^ 32))
       (list_all (has_small_numbers domains)
       (numbered domains event (unit + length (arguments_of domains name)) names))
       (lt-ltb (unit + length (arguments_of domains name)) (2 ^ 32) (omega (arith, units)))

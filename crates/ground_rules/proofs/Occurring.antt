@@ -5,11 +5,11 @@ use Rattle.std.proofs.lemmas.Grind.{flat_map-append}
 use Rattle.std.proofs.lemmas.List.{take_more, map-append}
 use Rattle.std.proofs.lemmas.List.Sums.{fold-append}
 use Rattle.std.specs.Global.{Vec}
-use Rattle.rule_read.specs.declared.form.Tree.{Tree, Union, Intersect, Complement}
-use Rattle.rule_read.specs.Forms.{plain_tree}
-use Rattle.domain_decl.specs.Mentions.{Mention, leaves, variable_in, variables}
-use Rattle.domain_decl.proofs.Gathering.{tree_leaves, union_leaves, intersect_leaves}
-use Rattle.domain_decl.proofs.Gathering.{complement_leaves}
+use Rattle.rule_forms.specs.declared.form.Tree.{Tree, Union, Intersect, Complement}
+use Rattle.rule_forms.specs.Forms.{plain_tree}
+use Rattle.decl_known.specs.Mentions.{Mention, leaves, variable_in, variables}
+use Rattle.decl_known.proofs.Gathering.{tree_leaves, union_leaves, intersect_leaves}
+use Rattle.decl_known.proofs.Gathering.{complement_leaves}
 use Rattle.std.specs.List.{filter_map}
 
 abbrev pub tree_variables : Tree → List (List ℕ)

@@ -5,6 +5,7 @@ use Rattle.std.proofs.Common.{Some, None, refl, sym, ap, ap₂, ◌∙◌, arith
 use Rattle.std.specs.List.{cons_option, range_with_len}
 use Rattle.std.proofs.lemmas.Bool.Decides.{nat_tests}
 use Rattle.std.proofs.lemmas.List.Sums.{sum_by-cons, sum_by-le-sum_by}
+use Rattle.decl_known.proofs.Gathering.{option_length}
 
 -- ---- sums
 
@@ -83,11 +84,6 @@ module _ {X : Type 0} (key weight : X → ℕ) where
       )
 
 -- ---- what is kept of items
-
-option_length : {X : Type 0} (o : Option X) (xs : List X) → length (cons_option o xs)
-    ≡ length (cons_option o []) + length xs
-option_length None xs = omega arith
-option_length (Some x) xs = omega arith
 
 pub one_at_most : {X : Type 0} (o : Option X) → length (cons_option o []) ≤ 1
 one_at_most None = omega arith

@@ -6,10 +6,10 @@ use Rattle.std.proofs.Common.{arith}
 use Rattle.std.specs.List.{AllZip, list_any, position_or_len, range_with_len}
 use Rattle.std.specs.Str.{bytes_eq}
 use Rattle.std.proofs.lemmas.Bool.Decides.{nat_tests}
-use Rattle.std.proofs.lemmas.Slice.Eq.{bytes_eq-Decides}
-use Rattle.rule_read.specs.Sound.{AllOf}
-use Rattle.domain_decl.specs.Lists.{has, place_in}
+use Rattle.rule_forms.specs.Sound.{AllOf}
+use Rattle.ground_types.specs.Words.{has, place_in}
 use Rattle.ground_types.specs.Sound.{argument_lists}
+use Rattle.word_table.proofs.LookUps.{same_word, equal_word}
 use Rattle.ground_rules.proofs.Members.{In, all_weaker, all_flat_map, all_map, some_pass, in_front}
 use Rattle.ground_rules.proofs.Members.{in_back}
 
@@ -66,12 +66,6 @@ module _ {A : Type 0} (p : A → Bool) where
         at = first.at;
         passes = first.passes;
       }
-
-pub same_word : (a b : List ℕ) → bytes_eq a b ≡ true → a ≡ b
-same_word a b e = (bytes_eq-Decides a b).0 e
-
-pub equal_word : (a b : List ℕ) → a ≡ b → bytes_eq a b ≡ true
-equal_word a b e = (bytes_eq-Decides a b).1 e
 
 -- a word that stands in a list has a place there
 pub record IsWordPlace (words : List (List ℕ)) (word : List ℕ) : Type 0 where

@@ -7,15 +7,15 @@ use Rattle.std.specs.Str.{bytes_eq}
 use Rattle.ground_types.specs.Sound.{is_input, arguments_of}
 use Rattle.ground_types.specs.declared.program.Domain.{Domain}
 use Rattle.ground_types.specs.declared.program.Name.{Name}
-use Rattle.rule_read.specs.declared.form.Term.{Term}
-use Rattle.rule_read.specs.Forms.{PlainForm}
-use Rattle.domain_decl.specs.Contents.{name_words}
-use Rattle.domain_decl.specs.Mentions.{Role, Mention, mentions}
-use Rattle.domain_decl.specs.Rules.{declaration, differs_in_kind, is_of_wrong_kind}
-use Rattle.domain_decl.specs.Rules.{differs_in_arity, has_wrong_arity, differs_in_word}
-use Rattle.domain_decl.specs.Rules.{has_undeclared_word, places_by, places, clash, has_clash}
-use Rattle.domain_decl.proofs.Anys.{list_any-same}
-use Rattle.ground_rules.specs.Numbers.{with_first, numbered}
+use Rattle.rule_forms.specs.declared.form.Term.{Term}
+use Rattle.rule_forms.specs.Forms.{PlainForm}
+use Rattle.ground_types.specs.Words.{name_words, declaration}
+use Rattle.decl_known.specs.Mentions.{Role, Mention, mentions}
+use Rattle.decl_known.specs.Rules.{differs_in_kind, is_of_wrong_kind, differs_in_arity}
+use Rattle.decl_known.specs.Rules.{has_wrong_arity, differs_in_word, has_undeclared_word, places_by}
+use Rattle.decl_known.specs.Rules.{places, clash, has_clash}
+use Rattle.decl_known.proofs.Anys.{list_any-same}
+use Rattle.ground_names.specs.Numbers.{with_first, numbered}
 
 -- it does not look at the first number of a name
 abbrev pub Ignores : {X : Type 0} → (Option Name → X) → Type 0

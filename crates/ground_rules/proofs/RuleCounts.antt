@@ -24,10 +24,10 @@ use Rattle.ground_types.specs.declared.program.Unit.{Unit}
 use Rattle.ground_types.specs.declared.program.UnitKind.{UnitKind}
 use Rattle.ground_types.specs.declared.program.UnitKind.TheVariants as unit_kind
 use Rattle.ground_types.specs.declared.program.Program.{Program}
-use Rattle.rule_read.specs.Forms.{PlainForm, Initiated, Terminated, Happens, HoldsFor}
-use Rattle.domain_decl.specs.declared.checked.Checked.{Checked}
-use Rattle.domain_decl.specs.Accepted.{PlainChecked, plain_checked}
-use Rattle.ground_rules.specs.Numbers.{with_first, numbered}
+use Rattle.rule_forms.specs.Forms.{PlainForm, Initiated, Terminated, Happens, HoldsFor}
+use Rattle.decl_known.specs.declared.checked.Checked.{Checked}
+use Rattle.decl_known.specs.Checked.{PlainChecked, plain_checked}
+use Rattle.ground_names.specs.Numbers.{with_first, numbered}
 use Rattle.ground_rules.specs.Assignments.{Clause, Instance, is_permitted, assignments, instances}
 use Rattle.ground_rules.specs.Atoms.{GroundExpression, Row_is, Union_is, Intersect_is}
 use Rattle.ground_rules.specs.Atoms.{Complement_is, GroundExpressions, no_more, and_more}

@@ -1,11 +1,11 @@
 -- What a description is grounded to is a sound program.
 use Rattle.std.proofs.Common.{◌≡◌, ℕ, List, map, flat_map, None, Result, Ok, Err, IfOk, subst, sym}
 use Rattle.std.proofs.Common.{ap}
-use Rattle.rule_read.specs.Forms.{plain}
-use Rattle.domain_decl.specs.declared.checked.Checked.{Checked}
-use Rattle.domain_decl.specs.Accepted.{plain_checked}
-use Rattle.domain_decl.specs.Sound.{IsSound as IsSoundChecked}
-use Rattle.strata_check.specs.Layers.{IsLayering}
+use Rattle.rule_forms.specs.Forms.{plain}
+use Rattle.decl_known.specs.declared.checked.Checked.{Checked}
+use Rattle.decl_known.specs.Checked.{plain_checked}
+use Rattle.decl_known.specs.Sound.{IsSound as IsSoundChecked}
+use Rattle.decl_known.specs.Layers.{IsLayering}
 use Rattle.ground_types.specs.declared.program.Program.{Program}
 use Rattle.ground_types.specs.Windows.{IsSoundPlan}
 use Rattle.ground_types.specs.Sound.{IsSound}

@@ -1,11 +1,10 @@
 -- What expressions say under an assignment, by the list of their members.
 use Rattle.std.proofs.Common.{◌≡◌, List, [], ◌∷◌, map, refl, sym, ap, ◌∙◌}
 use Rattle.std.specs.Global.{Vec, Box}
-use Rattle.rule_read.specs.declared.form.Tree.{Tree, Union, Intersect, Complement}
-use Rattle.rule_read.specs.Forms.{Expression, more, Union_of, Intersect_of, Complement_of}
-use Rattle.rule_read.specs.Forms.{plain_tree}
-use Rattle.rule_read.specs.Reading.{expressions}
-use Rattle.rule_read.proofs.Trees.{plain_union, plain_intersect, plain_complement}
+use Rattle.rule_forms.specs.declared.form.Tree.{Tree, Union, Intersect, Complement}
+use Rattle.rule_forms.specs.Forms.{Expression, more, Union_of, Intersect_of, Complement_of}
+use Rattle.rule_forms.specs.Forms.{plain_tree, expressions}
+use Rattle.rule_forms.proofs.Trees.{plain_union, plain_intersect, plain_complement}
 use Rattle.ground_rules.specs.Assignments.{Instance}
 use Rattle.ground_rules.specs.Stated.{stated_expression, stated_expressions}
 
@@ -34,12 +33,12 @@ module _ (i : Instance) where
       ∙ ap Intersect_of (members_stated w.items)
       ∙ ap (stated_expression i) (sym (plain_intersect w))
 
-  pub complement_stated : (b d : Box Tree) (v w : Vec Tree) → plain_tree b.value
-      ≡ stated_of d.value → map plain_tree v.items ≡ map stated_of w.items
-      → plain_tree (Complement b v) ≡ stated_of (Complement d w)
-  complement_stated b d v w first same =
-      plain_complement b v
-      ∙ ap (λ e. Complement_of e (expressions (map plain_tree v.items))) first
+  pub complement_stated : (first : Tree) (others : Vec Tree) (d : Box Tree) (w : Vec Tree)
+      → plain_tree first ≡ stated_of d.value → map plain_tree others.items ≡ map stated_of w.items
+      → Complement_of (plain_tree first) (expressions (map plain_tree others.items))
+      ≡ stated_of (Complement d w)
+  complement_stated first others d w same_first same =
+      ap (λ e. Complement_of e (expressions (map plain_tree others.items))) same_first
       ∙ ap (λ es. Complement_of (stated_of d.value) (expressions es)) same
       ∙ ap (Complement_of (stated_of d.value)) (members_stated w.items)
       ∙ ap (stated_expression i) (sym (plain_complement d w))

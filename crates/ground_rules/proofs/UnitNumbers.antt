@@ -18,9 +18,9 @@ use Rattle.ground_types.specs.declared.program.Unit.{Unit}
 use Rattle.ground_types.specs.declared.program.UnitKind.{UnitKind}
 use Rattle.ground_types.specs.declared.program.UnitKind.TheVariants as unit_kind
 use Rattle.ground_types.specs.declared.program.Program.{Program}
-use Rattle.domain_decl.specs.declared.checked.Checked.{Checked}
-use Rattle.domain_decl.specs.Accepted.{plain_checked}
-use Rattle.ground_rules.specs.Numbers.{numbered}
+use Rattle.decl_known.specs.declared.checked.Checked.{Checked}
+use Rattle.decl_known.specs.Checked.{plain_checked}
+use Rattle.ground_names.specs.Numbers.{numbered}
 use Rattle.ground_rules.specs.Assignments.{Instance, instances}
 use Rattle.ground_rules.specs.Grounded.{PlainKind, Simple_is, Static_is, Derived_is, plain_kind}
 use Rattle.ground_rules.specs.Grounded.{PlainUnit, plain_unit, PlainProgram, plain_program}

@@ -10,7 +10,7 @@ use Rattle.std.proofs.lemmas.Option.{slice_get-map, slice_get_within, none-some,
 use Rattle.ground_types.specs.Sound.{is_input, arguments_of}
 use Rattle.ground_types.specs.declared.program.Domain.{Domain}
 use Rattle.ground_types.specs.declared.program.Name.{Name}
-use Rattle.ground_rules.specs.Numbers.{with_first, numbered}
+use Rattle.ground_names.specs.Numbers.{with_first, numbered}
 use Rattle.ground_rules.specs.Assignments.{Instance}
 use Rattle.ground_rules.specs.Grounded.{PlainUnit, kind_by, instances_at, units_of_name, units_by}
 use Rattle.ground_rules.specs.Grounded.{units_of, event_count}

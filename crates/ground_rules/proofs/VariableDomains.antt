@@ -7,19 +7,19 @@ use Rattle.std.proofs.lemmas.List.Quantifiers.{position-Some}
 use Rattle.std.proofs.lemmas.Option.{none-some}
 use Rattle.std.specs.Str.{bytes_eq}
 use Rattle.ground_types.specs.declared.program.Name.{Name}
-use Rattle.rule_read.specs.declared.form.Term.{Term}
-use Rattle.rule_read.specs.declared.form.Term.TheVariants as term
-use Rattle.rule_read.specs.Forms.{PlainForm}
-use Rattle.rule_read.specs.Sound.{AllOf}
-use Rattle.domain_decl.specs.declared.variables.Place.{Place}
-use Rattle.domain_decl.specs.Lists.{has, place_in}
-use Rattle.domain_decl.specs.Gathered.{place_of, places_of}
-use Rattle.domain_decl.specs.Mentions.{Mention, mentions, variable_in}
-use Rattle.domain_decl.specs.Rules.{declaration, variable_at, places_by, places}
-use Rattle.domain_decl.proofs.LookUps.{place_of_items}
+use Rattle.rule_forms.specs.declared.form.Term.{Term}
+use Rattle.rule_forms.specs.declared.form.Term.TheVariants as term
+use Rattle.rule_forms.specs.Forms.{PlainForm}
+use Rattle.rule_forms.specs.Sound.{AllOf}
+use Rattle.decl_known.specs.declared.variables.Place.{Place}
+use Rattle.ground_types.specs.Words.{has, place_in, declaration}
+use Rattle.decl_known.specs.Gathered.{place_of, places_of}
+use Rattle.decl_known.specs.Mentions.{Mention, mentions, variable_in}
+use Rattle.decl_known.specs.Rules.{variable_at, places_by, places}
+use Rattle.word_table.proofs.LookUps.{place_of_items, same_word}
 use Rattle.ground_rules.specs.Assignments.{variables_of, number_at}
 use Rattle.ground_rules.proofs.Members.{all_weaker, all_flat_map}
-use Rattle.ground_rules.proofs.Places.{same_word, word_place}
+use Rattle.ground_rules.proofs.Places.{word_place}
 use Rattle.ground_rules.proofs.VariablePlaces.{AreVariables, variables_among}
 
 -- ---- words and places that are lent

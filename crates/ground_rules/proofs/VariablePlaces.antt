@@ -2,25 +2,25 @@
 use Rattle.std.proofs.Common.{◌≡◌, inl, inr, ℕ, Bool, true, false, true≢false, not, ◌&&◌, ◌==◌}
 use Rattle.std.proofs.Common.{List, [], ◌∷◌, ◌++◌, flat_map, filter_map, fold, refl, sym, ap, subst}
 use Rattle.std.proofs.Common.{◌∙◌, arith, if◌then◌else◌}
+use Rattle.std.proofs.lemmas.Bool.{or_left, or_right}
 use Rattle.std.specs.List.{list_any}
 use Rattle.std.specs.Str.{bytes_eq}
 use Rattle.std.proofs.lemmas.Bool.Decides.{nat_tests}
 use Rattle.std.proofs.lemmas.List.Folds.{list_any-append}
-use Rattle.rule_read.specs.declared.form.Body.{Body}
-use Rattle.rule_read.specs.declared.form.Body.TheVariants as body
-use Rattle.rule_read.specs.Forms.{PlainForm}
-use Rattle.rule_read.specs.Sound.{AllOf}
-use Rattle.domain_decl.specs.Lists.{has}
-use Rattle.domain_decl.specs.Mentions.{Mention, head_of, conditions_of, leaves_of, body_mentions}
-use Rattle.domain_decl.specs.Mentions.{mentions, variable_in, variables}
-use Rattle.domain_decl.specs.Rules.{places, clash, has_clash}
+use Rattle.rule_forms.specs.declared.form.Body.{Body}
+use Rattle.rule_forms.specs.declared.form.Body.TheVariants as body
+use Rattle.rule_forms.specs.Forms.{PlainForm, conditions_of}
+use Rattle.rule_forms.specs.Sound.{AllOf}
+use Rattle.ground_types.specs.Words.{has}
+use Rattle.decl_known.specs.Mentions.{Mention, head_of, leaves_of, body_mentions, mentions}
+use Rattle.decl_known.specs.Mentions.{variable_in, variables}
+use Rattle.decl_known.specs.Rules.{places, clash, has_clash}
 use Rattle.ground_rules.specs.Assignments.{Clause, variables_in, with_word, variables_of, number_at}
 use Rattle.ground_rules.specs.Assignments.{domain_of}
 use Rattle.ground_rules.proofs.Members.{In, member_of, all_members, all_weaker, all_append}
 use Rattle.ground_rules.proofs.Members.{all_front, all_back, all_flat_map, each_of_flat_map}
-use Rattle.ground_rules.proofs.Members.{none_pass, some_pass, Found, first_passing, any_left}
-use Rattle.ground_rules.proofs.Members.{any_right}
-use Rattle.ground_rules.proofs.Places.{same_word, equal_word}
+use Rattle.ground_rules.proofs.Members.{none_pass, some_pass, Found, first_passing}
+use Rattle.word_table.proofs.LookUps.{same_word, equal_word}
 
 -- ---- each word once
 
@@ -28,7 +28,7 @@ kept_by : (b : Bool) (words : List (List ℕ)) (next word : List ℕ) → has wo
     → has (if b then words else words ++ (next ∷ [])) word ≡ true
 kept_by true words next word h = h
 kept_by false words next word h = list_any-append (λ o. bytes_eq o word) words (next ∷ [])
-    ∙ any_left (has words word) (has (next ∷ []) word) h
+    ∙ or_left (has words word) (has (next ∷ []) word) h
 
 kept : (words more : List (List ℕ)) (word : List ℕ) → has words word ≡ true
     → has (fold with_word words more) word ≡ true
@@ -40,7 +40,7 @@ put_by : (b : Bool) (words : List (List ℕ)) (word : List ℕ) → has words wo
 put_by true words word h = h
 put_by false words word h =
     list_any-append (λ o. bytes_eq o word) words (word ∷ [])
-    ∙ any_right (has words word) (has (word ∷ []) word) (any_left (bytes_eq word word) false
+    ∙ or_right (has words word) (has (word ∷ []) word) (or_left (bytes_eq word word) false
     (equal_word word word refl))
 
 taken : (words more : List (List ℕ)) (word : List ℕ) → In word more

@@ -1,7 +1,7 @@
--- What grounding answers.
+-- Public contracts speak by this: what grounding answers.
 use Rattle.std.specs.Prelude.{◌≡◌, ℕ, List, Some, None, Result, Ok, Err}
 use Rattle.ground_types.specs.declared.program.Program.{Program}
-use Rattle.domain_decl.specs.Accepted.{PlainChecked}
+use Rattle.decl_known.specs.Checked.{PlainChecked}
 use Rattle.ground_rules.specs.declared.refused.GroundRefused.{GroundRefused}
 use Rattle.ground_rules.specs.declared.refused.GroundRefused.TheVariants as refused
 use Rattle.ground_rules.specs.Grounded.{plain_program, grounded}

@@ -1,5 +1,5 @@
--- *Instances*: the assignments of a statement's variables from their domains, in order, for which
--- every X \= Y compares two different words.
+-- Public contracts speak by this: *Instances*, the assignments of a statement's variables from
+-- their domains, in order, for which every X \= Y compares two different words.
 use Rattle.std.specs.Prelude.{ℕ, Bool, true, not, List, [], ◌∷◌, ◌++◌, map, flat_map, filter, find}
 use Rattle.std.specs.Prelude.{fold, slice_index_or, Option, Some, None, if◌then◌else◌}
 use Rattle.std.specs.List.{list_all}
@@ -7,12 +7,12 @@ use Rattle.std.specs.Str.{bytes_eq}
 use Rattle.ground_types.specs.Sound.{argument_lists, domain_sizes}
 use Rattle.ground_types.specs.declared.program.Domain.{Domain}
 use Rattle.ground_types.specs.declared.program.Name.{Name}
-use Rattle.rule_read.specs.declared.form.Body.{Body}
-use Rattle.rule_read.specs.declared.form.Body.TheVariants as body
-use Rattle.rule_read.specs.Forms.{PlainForm}
-use Rattle.domain_decl.specs.Lists.{has, place_in}
-use Rattle.domain_decl.specs.Mentions.{head_of, conditions_of, leaves_of, body_mentions, variables}
-use Rattle.domain_decl.specs.Rules.{places, entities_of}
+use Rattle.rule_forms.specs.declared.form.Body.{Body}
+use Rattle.rule_forms.specs.declared.form.Body.TheVariants as body
+use Rattle.rule_forms.specs.Forms.{PlainForm, conditions_of}
+use Rattle.ground_types.specs.Words.{has, place_in, entities_of}
+use Rattle.decl_known.specs.Mentions.{head_of, leaves_of, body_mentions, variables}
+use Rattle.decl_known.specs.Rules.{places}
 
 -- a statement over declarations
 pub record Clause : Type 0 where

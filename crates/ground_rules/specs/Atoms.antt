@@ -1,4 +1,4 @@
--- What atoms, conditions and expressions are under an assignment.
+-- Public contracts speak by this: what atoms, conditions and expressions are under an assignment.
 use Rattle.std.specs.Prelude.{ℕ, true, List, [], ◌∷◌, map, filter_map, zip, Option, Some, None}
 use Rattle.std.specs.Prelude.{if◌then◌else◌}
 use Rattle.ground_types.specs.Sound.{is_input}
@@ -10,20 +10,19 @@ use Rattle.ground_types.specs.declared.program.Cond.{Cond}
 use Rattle.ground_types.specs.declared.program.Rule.{Rule}
 use Rattle.ground_types.specs.declared.program.Expr.{Expr, Row, Union', Intersect', Complement'}
 use Rattle.ground_types.specs.declared.program.Expr.{Row_of-Expr, end_of-Expr, more_of-Expr}
-use Rattle.rule_read.specs.declared.form.Term.{Term}
-use Rattle.rule_read.specs.declared.form.Term.TheVariants as term
-use Rattle.rule_read.specs.declared.form.Atom.{Atom}
-use Rattle.rule_read.specs.declared.form.Fv.{Fv}
-use Rattle.rule_read.specs.declared.form.EventText.{EventText}
-use Rattle.rule_read.specs.declared.form.EventText.TheVariants as event
-use Rattle.rule_read.specs.declared.form.Body.{Body}
-use Rattle.rule_read.specs.declared.form.Body.TheVariants as body
-use Rattle.rule_read.specs.Forms.{Expression, Expressions, Value_of, Union_of, Intersect_of}
-use Rattle.rule_read.specs.Forms.{Complement_of, none, more, PlainForm, Initially, Initiated}
-use Rattle.rule_read.specs.Forms.{Terminated, Happens, HoldsFor}
-use Rattle.domain_decl.specs.Lists.{place_in}
-use Rattle.domain_decl.specs.Rules.{declaration, entities_of}
-use Rattle.ground_rules.specs.Numbers.{number_of}
+use Rattle.rule_forms.specs.declared.form.Term.{Term}
+use Rattle.rule_forms.specs.declared.form.Term.TheVariants as term
+use Rattle.rule_forms.specs.declared.form.Atom.{Atom}
+use Rattle.rule_forms.specs.declared.form.Fv.{Fv}
+use Rattle.rule_forms.specs.declared.form.EventText.{EventText}
+use Rattle.rule_forms.specs.declared.form.EventText.TheVariants as event
+use Rattle.rule_forms.specs.declared.form.Body.{Body}
+use Rattle.rule_forms.specs.declared.form.Body.TheVariants as body
+use Rattle.rule_forms.specs.Forms.{Expression, Expressions, Value_of, Union_of, Intersect_of}
+use Rattle.rule_forms.specs.Forms.{Complement_of, none, more, PlainForm, Initially, Initiated}
+use Rattle.rule_forms.specs.Forms.{Terminated, Happens, HoldsFor}
+use Rattle.ground_types.specs.Words.{place_in, declaration, entities_of}
+use Rattle.ground_names.specs.Numbers.{number_of}
 use Rattle.ground_rules.specs.Assignments.{Instance, entity_of}
 
 -- (in a checked description each name, value and entity is declared, so that no 0 stands for one

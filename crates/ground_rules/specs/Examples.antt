@@ -1,4 +1,4 @@
--- Evidence that the definitions say what is meant: instances, numbers and limits, worked by hand.
+-- Evidence for what public contracts speak by: instances, numbers and limits, worked by hand.
 -- Each equation holds by computation alone.
 use Rattle.std.specs.Prelude.{◌≡◌, ℕ, true, false, List, [], ◌∷◌, map, codes, Option, Some, None}
 use Rattle.std.specs.Prelude.{refl}
@@ -11,23 +11,23 @@ use Rattle.ground_types.specs.declared.program.Program.{Program}
 use Rattle.ground_types.specs.declared.program.Rule.{Rule}
 use Rattle.ground_types.specs.declared.program.Trigger.TheVariants as trigger
 use Rattle.ground_types.specs.declared.program.What.TheVariants as what
-use Rattle.rule_read.specs.declared.form.Term.{Term}
-use Rattle.rule_read.specs.declared.form.Term.TheVariants as term
-use Rattle.rule_read.specs.declared.form.Atom.{Atom}
-use Rattle.rule_read.specs.declared.form.Fv.{Fv}
-use Rattle.rule_read.specs.declared.form.EventText.TheVariants as event
-use Rattle.rule_read.specs.declared.form.Body.{Body}
-use Rattle.rule_read.specs.declared.form.Body.TheVariants as body
-use Rattle.rule_read.specs.Forms.{PlainForm, PlainStatement, Value_of, Intersect_of, none, more}
-use Rattle.rule_read.specs.Forms.{Initially, Initiated, Terminated, Happens, HoldsFor}
-use Rattle.domain_decl.specs.Accepted.{PlainChecked}
-use Rattle.ground_rules.specs.Numbers.{numbered, number_of}
+use Rattle.rule_forms.specs.declared.form.Term.{Term}
+use Rattle.rule_forms.specs.declared.form.Term.TheVariants as term
+use Rattle.rule_forms.specs.declared.form.Atom.{Atom}
+use Rattle.rule_forms.specs.declared.form.Fv.{Fv}
+use Rattle.rule_forms.specs.declared.form.EventText.TheVariants as event
+use Rattle.rule_forms.specs.declared.form.Body.{Body}
+use Rattle.rule_forms.specs.declared.form.Body.TheVariants as body
+use Rattle.rule_forms.specs.Forms.{PlainForm, PlainStatement, Value_of, Intersect_of, none, more}
+use Rattle.rule_forms.specs.Forms.{Initially, Initiated, Terminated, Happens, HoldsFor}
+use Rattle.decl_known.specs.Checked.{PlainChecked}
+use Rattle.ground_names.specs.Numbers.{numbered, number_of}
 use Rattle.ground_rules.specs.Assignments.{Clause, Instance, variables_of, assignments, instances}
 use Rattle.ground_rules.specs.Atoms.{head_unit}
 use Rattle.ground_rules.specs.Grounded.{PlainUnit, Derived_is, initiation_by, occurrence_by}
 use Rattle.ground_rules.specs.Grounded.{opening_of, layers_of, event_count, clauses}
 use Rattle.ground_rules.specs.Stated.{stated as said}
-use Rattle.ground_rules.specs.EventAtoms.{event_atoms}
+use Rattle.ground_names.specs.EventAtoms.{event_atoms}
 use Rattle.ground_rules.specs.Limits.{unit_count, row_count, assignment_count, rule_count}
 use Rattle.ground_rules.specs.Limits.{condition_count, first_exceeded, exceeded}
 

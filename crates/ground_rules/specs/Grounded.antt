@@ -1,4 +1,5 @@
--- The program of a description: its units in order, each with the instances that define it.
+-- Public contracts speak by this: the program of a description, its units in order, each with the
+-- instances that define it.
 use Rattle.std.specs.Prelude.{ℕ, ◌==◌, List, [], map, flat_map, filter, filter_map, find, length}
 use Rattle.std.specs.Prelude.{sum_by, fold, max, slice_index_or, Option, Some, None, if◌then◌else◌}
 use Rattle.std.specs.List.{range_with_len, enumerate_from}
@@ -14,10 +15,10 @@ use Rattle.ground_types.specs.declared.program.Unit.{Unit}
 use Rattle.ground_types.specs.declared.program.UnitKind.{UnitKind}
 use Rattle.ground_types.specs.declared.program.UnitKind.TheVariants as unit_kind
 use Rattle.ground_types.specs.declared.program.Program.{Program}
-use Rattle.rule_read.specs.Forms.{PlainForm, PlainStatement, Initially, Initiated, Terminated}
-use Rattle.rule_read.specs.Forms.{Happens, HoldsFor}
-use Rattle.domain_decl.specs.Accepted.{PlainChecked}
-use Rattle.ground_rules.specs.Numbers.{numbered}
+use Rattle.rule_forms.specs.Forms.{PlainForm, PlainStatement, Initially, Initiated, Terminated}
+use Rattle.rule_forms.specs.Forms.{Happens, HoldsFor}
+use Rattle.decl_known.specs.Checked.{PlainChecked}
+use Rattle.ground_names.specs.Numbers.{numbered}
 use Rattle.ground_rules.specs.Assignments.{Clause, Instance, instances}
 use Rattle.ground_rules.specs.Atoms.{GroundExpression, Union_is, all_of, plain_expr, head_unit}
 use Rattle.ground_rules.specs.Atoms.{head_value, ground_rule, ground_expression}
@@ -71,7 +72,8 @@ plain_program program = record {
   events = program.events;
 }
 
--- ---- a unit from the instances that have it as head, in the order of the text and then of the assignments
+-- ---- a unit from the instances that have it as head, in the order of the text and then of the
+-- assignments
 
 -- the value that an `initially` instance gives
 abbrev pub opening_by : Instance → PlainForm → Option ℕ

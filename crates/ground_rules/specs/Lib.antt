@@ -1,18 +1,20 @@
-pub mod Numbers
+pub use Rattle.ground_names.specs.Numbers
+pub use Rattle.ground_names.specs.Counted
+pub use Rattle.ground_names.specs.Found
+pub use Rattle.ground_names.specs.EventAtoms
 pub mod Assignments
-pub mod Counted
 pub mod Declarations
 pub mod Clauses
-pub mod Origins
 pub mod Atoms
 pub mod Grounded
 pub mod Stated
-pub mod EventAtoms
 pub mod Limits
-pub mod Tests
 pub mod Answers
 pub mod Listed
-pub mod Found
-pub mod Noted
-pub mod Reached
+-- Evidence.
 pub mod Examples
+-- For private functions alone.
+pub mod NumberedDeclarations
+pub mod LentInstances
+pub mod Origins
+pub mod Tests

@@ -1,4 +1,5 @@
--- The limits on what a description comes to, in the order in which they are tested.
+-- Public contracts speak by this: the limits on what a description comes to, in the order in which
+-- they are tested.
 use Rattle.std.specs.Prelude.{ℕ, ◌+◌, ◌*◌, nat_lt, Bool, true, false, List, [], ◌∷◌, ◌++◌, filter}
 use Rattle.std.specs.Prelude.{length, sum_by, Option, Some, None, if◌then◌else◌}
 use Rattle.rt_base.specs.declared.limit.Limit.{Limit}
@@ -8,11 +9,11 @@ use Rattle.ground_types.specs.declared.program.Domain.{Domain}
 use Rattle.ground_types.specs.declared.program.Name.{Name}
 use Rattle.ground_types.specs.declared.program.NameKind.{NameKind}
 use Rattle.ground_types.specs.declared.program.NameKind.TheVariants as name_kind
-use Rattle.rule_read.specs.declared.form.Body.{Body}
-use Rattle.rule_read.specs.declared.form.Body.TheVariants as body
-use Rattle.rule_read.specs.Forms.{PlainForm, Initially}
-use Rattle.domain_decl.specs.Accepted.{PlainChecked}
-use Rattle.domain_decl.specs.Mentions.{conditions_of, leaves_of}
+use Rattle.rule_forms.specs.declared.form.Body.{Body}
+use Rattle.rule_forms.specs.declared.form.Body.TheVariants as body
+use Rattle.rule_forms.specs.Forms.{PlainForm, Initially, conditions_of}
+use Rattle.decl_known.specs.Checked.{PlainChecked}
+use Rattle.decl_known.specs.Mentions.{leaves_of}
 use Rattle.ground_rules.specs.Assignments.{Clause, assignments, instances}
 use Rattle.ground_rules.specs.Grounded.{event_count, clauses}
 

@@ -1,11 +1,12 @@
--- The instances of a description that are listed by the units in their heads.
+-- Public contracts speak by this: the instances of a description, listed by the units in their
+-- heads.
 use Rattle.std.specs.Prelude.{◌≡◌, ℕ, List, map, flat_map, length}
 use Rattle.ground_rules.specs.Assignments.{Clause, Instance, instances}
 use Rattle.ground_rules.specs.Clauses.{clause_of}
 use Rattle.ground_rules.specs.Grounded.{instances_at, clauses}
 use Rattle.ground_rules.specs.Limits.{unit_count}
 use Rattle.ground_rules.specs.declared.instances.Instances.{Instances}
-use Rattle.domain_decl.specs.Accepted.{PlainChecked}
+use Rattle.decl_known.specs.Checked.{PlainChecked}
 
 -- the statements that it is made of
 abbrev pub clauses_in : Instances → List Clause

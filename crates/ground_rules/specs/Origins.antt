@@ -1,4 +1,5 @@
--- Where instances come from, and the buckets in which they are gathered.
+-- For private functions alone: where instances come from, and the buckets in which they are
+-- gathered.
 use Rattle.std.specs.Prelude.{◌≡◌, ◌<◌, ℕ, ◌+◌, ◌^◌, ◌==◌, nat_lt, Bool, ◌&&◌, ◌||◌, List, [], ◌∷◌}
 use Rattle.std.specs.Prelude.{◌++◌, map, flat_map, filter, length, slice_index_or, slice_set, min}
 use Rattle.std.specs.Prelude.{Option, Some, None, if◌then◌else◌}
@@ -6,7 +7,7 @@ use Rattle.std.specs.List.{range_with_len}
 use Rattle.ground_types.specs.Sound.{is_input, arguments_of}
 use Rattle.ground_types.specs.declared.program.Domain.{Domain}
 use Rattle.ground_types.specs.declared.program.Name.{Name}
-use Rattle.rule_read.specs.Forms.{Window}
+use Rattle.rule_forms.specs.Forms.{Window}
 use Rattle.ground_rules.specs.declared.units.Origin.{Origin}
 use Rattle.ground_rules.specs.Assignments.{Clause, Instance, assignments, is_permitted}
 use Rattle.ground_rules.specs.Atoms.{head_unit}
@@ -50,8 +51,8 @@ instance_at clauses origin = record {
 }
 
 -- the unit in its head
-abbrev pub unit_at : List Clause → Origin → ℕ
-unit_at clauses origin = head_unit (instance_at clauses origin)
+abbrev pub origin_unit : List Clause → Origin → ℕ
+origin_unit clauses origin = head_unit (instance_at clauses origin)
 
 abbrev pub is_permitted_at : List Clause → Origin → Bool
 is_permitted_at clauses origin = is_permitted (instance_at clauses origin)
@@ -75,7 +76,8 @@ origins_of clauses = flat_map (origins_at clauses) (range_with_len 0 (length cla
 
 -- lists have for each unit below their number the origins of the instances with it as head
 abbrev pub AreOrigins : List Clause → List (List Origin) → Type 0
-AreOrigins clauses lists = lists ≡ gathered (unit_at clauses) (length lists) (origins_of clauses)
+AreOrigins clauses lists = lists ≡ gathered (origin_unit clauses) (length lists)
+    (origins_of clauses)
 
 -- the statement at a place has not too many assignments
 abbrev pub AreFew : List Clause → Type 0

@@ -1,16 +1,17 @@
--- Instances as statements: entities stand in place of variables, and no X \= Y is left.
+-- Public contracts speak by this: instances as statements. Entities stand in place of variables,
+-- and no X \= Y is left.
 use Rattle.std.specs.Prelude.{List, map, filter_map, Option, Some, None}
-use Rattle.rule_read.specs.declared.form.Term.{Term}
-use Rattle.rule_read.specs.declared.form.Term.TheVariants as term
-use Rattle.rule_read.specs.declared.form.Atom.{Atom}
-use Rattle.rule_read.specs.declared.form.Fv.{Fv}
-use Rattle.rule_read.specs.declared.form.EventText.{EventText}
-use Rattle.rule_read.specs.declared.form.EventText.TheVariants as event
-use Rattle.rule_read.specs.declared.form.Body.{Body}
-use Rattle.rule_read.specs.declared.form.Body.TheVariants as body
-use Rattle.rule_read.specs.Forms.{Expression, Expressions, Value_of, Union_of, Intersect_of}
-use Rattle.rule_read.specs.Forms.{Complement_of, none, more, PlainForm, Initially, Initiated}
-use Rattle.rule_read.specs.Forms.{Terminated, Happens, HoldsFor}
+use Rattle.rule_forms.specs.declared.form.Term.{Term}
+use Rattle.rule_forms.specs.declared.form.Term.TheVariants as term
+use Rattle.rule_forms.specs.declared.form.Atom.{Atom}
+use Rattle.rule_forms.specs.declared.form.Fv.{Fv}
+use Rattle.rule_forms.specs.declared.form.EventText.{EventText}
+use Rattle.rule_forms.specs.declared.form.EventText.TheVariants as event
+use Rattle.rule_forms.specs.declared.form.Body.{Body}
+use Rattle.rule_forms.specs.declared.form.Body.TheVariants as body
+use Rattle.rule_forms.specs.Forms.{Expression, Expressions, Value_of, Union_of, Intersect_of}
+use Rattle.rule_forms.specs.Forms.{Complement_of, none, more, PlainForm, Initially, Initiated}
+use Rattle.rule_forms.specs.Forms.{Terminated, Happens, HoldsFor}
 use Rattle.ground_rules.specs.Assignments.{Instance, word_of}
 
 abbrev pub stated_term : Instance → Term → Term

@@ -1,4 +1,4 @@
--- Tests that pass or refuse.
+-- For private functions alone: tests that pass or refuse.
 use Rattle.std.specs.Prelude.{◌≡◌, Option, Some, None, Result, Ok, Err}
 use Rattle.rt_base.specs.declared.limit.Limit.{Limit}
 use Rattle.ground_rules.specs.declared.refused.GroundRefused.{GroundRefused}

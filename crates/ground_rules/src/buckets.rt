@@ -8,7 +8,7 @@ use std::alloc::Global;
 use std::marker::Model;
 use std::vec::IntoIter;
 
-/// So many lists, numbered from 0. Contracts see the list of them.
+// So many lists, numbered from 0. Contracts see the list of them.
 #[derive(Drop)]
 pub(crate) struct Buckets<T> {
     lists: Vec<Vec<T>>,
@@ -38,7 +38,7 @@ fn lists_of<T: Drop>(
 }
 
 impl<T: Drop> Buckets<T> {
-    /// So many empty lists.
+    // So many empty lists.
     pub(crate) fn new(alloc: Global, count: usize) -> Result<Buckets<T>, OutOfMemory>
         ensures { IfOk result (λ buckets. buckets ≡ replicate count []) }
     {
@@ -49,7 +49,7 @@ impl<T: Drop> Buckets<T> {
         Ok(Buckets { lists })
     }
 
-    /// Puts an item behind the others of the list of this number, if there is one.
+    // Puts an item behind the others of the list of this number, if there is one.
     pub(crate) fn push(&mut self, number: usize, item: T) -> Result<(), OutOfMemory>
         ensures { IfOk result (λ _. self.new ≡ slice_set self.old number
             (slice_index_or self.old number [] ++ (item ∷ []))) }
@@ -60,7 +60,7 @@ impl<T: Drop> Buckets<T> {
         Ok(())
     }
 
-    /// The list of this number, empty if there is none.
+    // The list of this number, empty if there is none.
     pub(crate) fn get(&self, number: usize) -> &[T]
         ensures { result.now ≡ slice_index_or self.now number [] }
     {
@@ -70,7 +70,7 @@ impl<T: Drop> Buckets<T> {
         }
     }
 
-    /// All lists, in order.
+    // All lists, in order.
     pub(crate) fn into_lists(self, alloc: Global) -> Result<List<List<T>>, OutOfMemory>
         ensures { IfOk result (λ lists. lists ≡ self) }
     {

@@ -3,32 +3,33 @@ ghost use Rattle.std.specs.Prelude.{◌≡◌, ◌<◌, ◌^◌, true, map, find
 ghost use Rattle.std.specs.Str.{bytes_eq};
 ghost use Rattle.std.specs.List.{list_all};
 ghost use Rattle.ground_types.specs.Sound.{domain_sizes};
-ghost use Rattle.rule_read.specs.Forms.{plain_form};
-ghost use Rattle.domain_decl.specs.Sound.{is_sound_domain, is_sound_name};
-ghost use Rattle.domain_decl.specs.Lists.{place_in};
-ghost use Rattle.domain_decl.specs.Gathered.{places_of};
-ghost use Rattle.ground_rules.specs.Counted.{capped, has_small_numbers};
+ghost use Rattle.rule_forms.specs.Forms.{plain_form};
+ghost use Rattle.decl_known.specs.Sound.{is_sound_domain, is_sound_name};
+ghost use Rattle.ground_types.specs.Words.{place_in};
+ghost use Rattle.decl_known.specs.Gathered.{places_of};
+ghost use Rattle.ground_names.specs.Counted.{capped, has_small_numbers};
 ghost use Rattle.ground_rules.specs.Assignments.{variables_of, number_at, domain_of, assignments};
-ghost use Rattle.ground_rules.specs.Declarations.{clause_by, AreDeclarations};
+ghost use Rattle.ground_rules.specs.Declarations.{clause_by};
+ghost use Rattle.ground_rules.specs.NumberedDeclarations.{AreDeclarations};
 
-use crate::lists::{count_lists, list_at, sizes_of};
 use crate::variables::variables_of;
-use domain_decl::{Known, Place, places};
+use decl_known::{Known, Place, places};
+use ground_names::{count_lists, list_at, sizes_of};
 use rt_base::{OutOfMemory, Word};
-use rule_read::Form;
+use rule_forms::Form;
 use std::alloc::Global;
 
-/// A statement over declarations, with its variables. Contracts see the statement and the
-/// declarations.
+// A statement over declarations, with its variables. Contracts see the statement and the
+// declarations.
 #[derive(Drop)]
 pub(crate) struct Clause<'k, 'a> {
     known: &'k Known<'a>,
     form: &'k Form,
-    /// In the order of their first occurrence in the text.
+    // In the order of their first occurrence in the text.
     variables: Vec<&'k Word>,
-    /// For each variable the number of its domain.
+    // For each variable the number of its domain.
     domains: Vec<u32>,
-    /// For each variable how many entities its domain has.
+    // For each variable how many entities its domain has.
     sizes: Vec<u32>,
     ghost variables_are: { map (λ word. word.now) variables.items
         ≡ variables_of (plain_form form.now) },
@@ -71,8 +72,8 @@ fn domains_of(alloc: Global, places: &[Place], variables: &[&Word]) -> Result<Ve
 }
 
 impl<'k, 'a> Clause<'k, 'a> {
-    /// A statement over these declarations. It takes the time of a walk over the statement for each
-    /// of its variables.
+    // A statement over these declarations. It takes the time of a walk over the statement for each
+    // of its variables.
     pub(crate) fn new(
         alloc: Global,
         known: &'k Known<'a>,
@@ -95,7 +96,7 @@ impl<'k, 'a> Clause<'k, 'a> {
         })
     }
 
-    /// The declarations.
+    // The declarations.
     pub(crate) fn known(&self) -> &'k Known<'a>
         ensures domains { result.now.domains.now
             ≡ (clause_by self.now.known.now self.now.form.now).domains }
@@ -107,14 +108,14 @@ impl<'k, 'a> Clause<'k, 'a> {
         self.known
     }
 
-    /// What the statement says.
+    // What the statement says.
     pub(crate) fn form(&self) -> &'k Form
         ensures { plain_form result.now ≡ (clause_by self.now.known.now self.now.form.now).form }
     {
         self.form
     }
 
-    /// How many assignments there are, or the greatest number where there are more.
+    // How many assignments there are, or the greatest number where there are more.
     pub(crate) fn count(&self) -> u64
         ensures { result ≡ capped (length
             (assignments (clause_by self.now.known.now self.now.form.now))) }
@@ -122,8 +123,8 @@ impl<'k, 'a> Clause<'k, 'a> {
         count_lists(self.sizes.as_slice())
     }
 
-    /// Puts the assignment of a number in place of what was there: for each variable the number of
-    /// its entity.
+    // Puts the assignment of a number in place of what was there: for each variable the number of
+    // its entity.
     pub(crate) fn assign(&self, number: u32, into: &mut Vec<u32>) -> Result<(), OutOfMemory>
         requires inside { number < length
             (assignments (clause_by self.now.known.now self.now.form.now)) }
@@ -136,7 +137,7 @@ impl<'k, 'a> Clause<'k, 'a> {
         list_at(self.sizes.as_slice(), number, into)
     }
 
-    /// The place of a variable among those of the statement.
+    // The place of a variable among those of the statement.
     pub(crate) fn place(&self, variable: &Word) -> Option<usize>
         ensures { result ≡ place_in (variables_of (clause_by self.now.known.now
             self.now.form.now).form) variable.now }
@@ -146,7 +147,7 @@ impl<'k, 'a> Clause<'k, 'a> {
             .position(|other| other.as_str() == variable.as_str())
     }
 
-    /// The number of a variable's domain, 0 where the variable stands in no atom.
+    // The number of a variable's domain, 0 where the variable stands in no atom.
     pub(crate) fn domain(&self, variable: &Word) -> u32
         ensures { result ≡ domain_of (clause_by self.now.known.now self.now.form.now) variable.now }
     {

@@ -1,15 +1,15 @@
 // Grounding a description.
-ghost use Rattle.std.specs.Prelude.{◌≡◌, ◌++◌, map, flat_map, None, IfOk};
-ghost use Rattle.rule_read.specs.Forms.{plain};
-ghost use Rattle.domain_decl.specs.Sound.{IsSound as IsSoundChecked};
-ghost use Rattle.domain_decl.specs.Accepted.{plain_checked};
-ghost use Rattle.strata_check.specs.Layers.{IsLayering};
+ghost use Rattle.std.specs.Prelude.{◌≡◌, ◌<◌, ◌^◌, ◌++◌, map, flat_map, length, None, IfOk};
+ghost use Rattle.rule_forms.specs.Forms.{plain};
+ghost use Rattle.decl_known.specs.Sound.{IsSound as IsSoundChecked};
+ghost use Rattle.decl_known.specs.Checked.{plain_checked};
+ghost use Rattle.decl_known.specs.Layers.{IsLayering};
 ghost use Rattle.ground_types.specs.Sound.{IsSound};
 ghost use Rattle.ground_rules.specs.Assignments.{instances};
-ghost use Rattle.ground_rules.specs.Declarations.{AreDeclarations};
+ghost use Rattle.ground_rules.specs.NumberedDeclarations.{AreDeclarations};
 ghost use Rattle.ground_rules.specs.Clauses.{clause_of};
-ghost use Rattle.ground_rules.specs.Grounded.{plain_unit, clauses_of, clauses, numbered_names};
-ghost use Rattle.ground_rules.specs.Grounded.{units_of};
+ghost use Rattle.ground_rules.specs.Grounded.{clauses as all_clauses, plain_unit, clauses_of};
+ghost use Rattle.ground_rules.specs.Grounded.{numbered_names, units_of, layers_of};
 ghost use Rattle.ground_rules.specs.Limits.{first_exceeded, name_tests, clause_tests, row_tests};
 ghost use Rattle.ground_rules.specs.Tests.{Tests};
 ghost use Rattle.ground_rules.specs.Answers.{Answers};
@@ -20,14 +20,13 @@ use crate::limits::{event_count, test_clauses, test_names, test_rows, unit_count
 use crate::numbering::{copied_domains, numbered};
 use crate::refused::GroundRefused;
 use crate::units::units_of;
-use domain_decl::{Checked, Known};
-use ground_types::{Name, Program, Unit};
+use decl_known::{Checked, Known, LayerList};
+use ground_types::{Domain, Name, Program, Unit, UnitId};
 use rt_base::{List, OutOfMemory};
-use rule_read::Statement;
+use rule_forms::Statement;
 use std::alloc::Global;
-use strata_check::LayerList;
 
-/// Statements over declarations, each with its variables.
+// Statements over declarations, each with its variables.
 pub(crate) fn clauses_of<'k, 'a>(
     alloc: Global,
     known: &'k Known<'a>,
@@ -44,6 +43,32 @@ pub(crate) fn clauses_of<'k, 'a>(
     Ok(clauses)
 }
 
+// The units of a description over its numbered names and its statements, if these and the rows are
+// within the limits.
+fn units_within(
+    alloc: Global,
+    checked: &Checked,
+    names: &[Name],
+    clauses: &[Clause],
+) -> Result<Vec<Unit>, GroundRefused>
+    requires checked { IsSoundChecked checked.now }
+    requires names { names.now ≡ numbered_names (plain_checked checked.now) }
+    requires few { first_exceeded (name_tests checked.now.domains checked.now.names) ≡ None }
+    requires clauses { map clause_of clauses.now ≡ all_clauses (plain_checked checked.now) }
+    ensures tests { Tests result (first_exceeded
+        (clause_tests (all_clauses (plain_checked checked.now)) ++ row_tests checked.now.domains
+        checked.now.names checked.now.plan.queries)) }
+    ensures units { IfOk result (λ units. map plain_unit units.items ≡ units_of checked.now.domains
+        names.now (flat_map instances (all_clauses (plain_checked checked.now)))) }
+{
+    let domains = checked.domains.as_slice();
+    let declared = checked.names.as_slice();
+    test_clauses(alloc, clauses)?;
+    test_rows(domains, declared, checked.plan.queries)?;
+    let count = unit_count(domains, declared) as usize;
+    Ok(units_of(alloc, domains, names, clauses, count)?)
+}
+
 // The units of a description over its names, which are numbered, if its statements and rows are
 // within the limits.
 fn units_over(alloc: Global, checked: &Checked, names: &[Name]) -> Result<Vec<Unit>, GroundRefused>
@@ -51,20 +76,33 @@ fn units_over(alloc: Global, checked: &Checked, names: &[Name]) -> Result<Vec<Un
     requires names { names.now ≡ numbered_names (plain_checked checked.now) }
     requires few { first_exceeded (name_tests checked.now.domains checked.now.names) ≡ None }
     ensures tests { Tests result (first_exceeded
-        (clause_tests (clauses (plain_checked checked.now)) ++ row_tests checked.now.domains
+        (clause_tests (all_clauses (plain_checked checked.now)) ++ row_tests checked.now.domains
         checked.now.names checked.now.plan.queries)) }
     ensures units { IfOk result (λ units. map plain_unit units.items ≡ units_of checked.now.domains
-        names.now (flat_map instances (clauses (plain_checked checked.now)))) }
+        names.now (flat_map instances (all_clauses (plain_checked checked.now)))) }
 {
     let domains = checked.domains.as_slice();
-    let declared = checked.names.as_slice();
     let known = Known::new(alloc, domains, names)?;
     let rules = checked.rules.as_slice();
     let clauses = clauses_of(alloc, &known, &*rules)?;
-    test_clauses(alloc, clauses.as_slice())?;
-    test_rows(domains, declared, checked.plan.queries)?;
-    let count = unit_count(domains, declared) as usize;
-    Ok(units_of(alloc, domains, names, clauses.as_slice(), count)?)
+    units_within(alloc, checked, names, clauses.as_slice())
+}
+
+// Copies of a description's domains, and the layers of its units.
+fn domains_and_layers(
+    alloc: Global,
+    checked: &Checked,
+    layers: &LayerList,
+    units: &[Unit],
+) -> Result<(List<Domain>, List<List<UnitId>>), OutOfMemory>
+    requires { length units.now < 2 ^ 32 }
+    ensures domains { IfOk result (λ made. made.0 ≡ checked.now.domains) }
+    ensures layers { IfOk result (λ made. made.1 ≡ layers_of layers.now.of_name
+        (map plain_unit units.now)) }
+{
+    let domains = copied_domains(alloc, checked.domains.as_slice())?;
+    let layers = layers_of(alloc, layers.of_name.as_slice(), units)?;
+    Ok((domains, layers))
 }
 
 // The program of a description, or the first limit that is exceeded.
@@ -81,10 +119,10 @@ fn program_of(
     test_names(domains, declared)?;
     let names = numbered(alloc, domains, declared)?;
     let units = units_over(alloc, checked, names.as_slice())?;
-    let layers = layers_of(alloc, layers.of_name.as_slice(), units.as_slice())?;
+    let (copies, layers) = domains_and_layers(alloc, checked, layers, units.as_slice())?;
     Ok(Program {
         plan: checked.plan,
-        domains: copied_domains(alloc, domains)?,
+        domains: copies,
         names,
         units: List::of(units),
         layers,

@@ -1,68 +1,53 @@
 // A statement under an assignment: its atoms, conditions and expressions without variables.
-ghost use Rattle.std.specs.Prelude.{◌≡◌, [], ◌++◌, true, map, filter_map, position, slice_index_or};
+ghost use Rattle.std.specs.Prelude.{◌≡◌, [], ◌++◌, true, map, filter_map, position};
 ghost use Rattle.std.specs.Prelude.{option_map, option_to_list, IfOk};
 ghost use Rattle.std.specs.Str.{bytes_eq};
-ghost use Rattle.rule_read.specs.Forms.{plain_form, plain_tree};
-ghost use Rattle.domain_decl.specs.Mentions.{conditions_of};
-ghost use Rattle.domain_decl.specs.Lists.{place_in};
-ghost use Rattle.domain_decl.specs.Rules.{declaration, entities_of};
+ghost use Rattle.rule_forms.specs.Forms.{plain_form, plain_tree, conditions_of};
+ghost use Rattle.ground_types.specs.Words.{declaration};
 ghost use Rattle.ground_types.specs.Sound.{arguments_of};
-ghost use Rattle.ground_rules.specs.Numbers.{number_of};
-ghost use Rattle.ground_rules.specs.Counted.{capped, has_small_numbers};
+ghost use Rattle.ground_names.specs.Numbers.{number_of};
+ghost use Rattle.ground_names.specs.Counted.{capped, has_small_numbers};
 ghost use Rattle.ground_rules.specs.Assignments.{entity_of, word_of, permits, is_permitted};
 ghost use Rattle.ground_rules.specs.Atoms.{or_zero, ground_term, ground_args, ground_atom};
 ghost use Rattle.ground_rules.specs.Atoms.{ground_value, event_by, ground_event, ground_condition};
 ghost use Rattle.ground_rules.specs.Atoms.{ground_rule, head_unit, head_value, plain_expr};
-ghost use Rattle.ground_rules.specs.Atoms.{ground_expression};
+ghost use Rattle.ground_rules.specs.Atoms.{ground_expression, Complement_is, all_of};
 ghost use Rattle.ground_rules.specs.Grounded.{opening_by, expression_by};
-ghost use Rattle.ground_rules.specs.Clauses.{clause_of, instance_of, rule_by, is_input_by};
+ghost use Rattle.ground_rules.specs.Clauses.{clause_of};
+ghost use Rattle.ground_rules.specs.LentInstances.{instance_of, rule_by, is_input_by};
 
 use crate::clause::Clause;
-use crate::lists::{entity_count, next_place};
-use domain_decl::conditions_of;
-use ground_types::{Cond, Domain, Expr, Name, NameKind, Rule, Trigger, What};
+use ground_names::{entity_count, next_place, place_in};
+use ground_types::{Cond, Expr, Name, NameKind, Rule, Trigger, What, entity_word};
 use rt_base::{List, OutOfMemory, Word};
-use rule_read::{Atom, Body, EventText, Form, Fv, Term, Tree};
+use rule_forms::{Atom, Body, EventText, Form, Fv, Term, Tree, conditions_of};
 use std::alloc::Global;
 
-/// A statement under an assignment, which has the number of an entity for each of its variables.
+// A statement under an assignment, which has the number of an entity for each of its variables.
 #[derive(Clone, Copy)]
 pub(crate) struct Instance<'i, 'k, 'a> {
     pub clause: &'i Clause<'k, 'a>,
     pub assignment: &'i [u32],
 }
 
-/// Which rules are asked for.
+// Which rules are asked for.
 #[derive(Clone, Copy, Debug, PartialEq, Eq)]
 pub(crate) enum Part {
-    /// `initiatedAt`.
+    // `initiatedAt`.
     Initiation,
-    /// `terminatedAt`.
+    // `terminatedAt`.
     Termination,
-    /// `happensAt`.
+    // `happensAt`.
     Occurrence,
 }
 
-// The word of an entity of a domain, empty where there is none.
-fn entity_word(domains: &[Domain], domain: u32, entity: u32) -> &str
-    ensures { result.now ≡ slice_index_or (entities_of domains.now domain) entity [] }
+// A relative complement of an expression and others.
+fn complement_expr(alloc: Global, first: Expr, others: Vec<Expr>) -> Result<Expr, OutOfMemory>
+    ensures { IfOk result (λ expr. plain_expr expr ≡ Complement_is (plain_expr first)
+        (all_of (map plain_expr others.items))) }
 {
-    match domains.get(domain as usize) {
-        Some(domain) => match domain.entities.as_slice().get(entity as usize) {
-            Some(word) => word.as_str(),
-            None => "",
-        },
-        None => "",
-    }
-}
-
-// The place of a word in a list.
-fn place_in(words: &[Word], word: &Word) -> Option<usize>
-    ensures { result ≡ place_in words.now word.now }
-{
-    words
-        .iter()
-        .position(|other| other.as_str() == word.as_str())
+    let first = Box::new(alloc, first)?;
+    Ok(Expr::Complement(first, others))
 }
 
 impl<'i, 'k, 'a> Instance<'i, 'k, 'a> {
@@ -79,7 +64,7 @@ impl<'i, 'k, 'a> Instance<'i, 'k, 'a> {
         }
     }
 
-    /// The word of the entity that a variable stands for.
+    // The word of the entity that a variable stands for.
     pub(crate) fn word(&self, variable: &Word) -> &str
         ensures { result.now ≡ word_of (instance_of self.now) variable.now }
     {
@@ -87,6 +72,7 @@ impl<'i, 'k, 'a> Instance<'i, 'k, 'a> {
         entity_word(domains, self.clause.domain(variable), self.entity(variable))
     }
 
+    // Whether a condition that is `\=` compares two different words.
     fn permits(&self, body: &Body) -> bool
         ensures { result ≡ permits (instance_of self.now) body.now }
     {
@@ -96,7 +82,7 @@ impl<'i, 'k, 'a> Instance<'i, 'k, 'a> {
         }
     }
 
-    /// Whether every `\=` compares two different words.
+    // Whether every `\=` compares two different words.
     pub(crate) fn is_permitted(&self) -> bool
         ensures { result ≡ is_permitted (instance_of self.now) }
     {
@@ -165,7 +151,7 @@ impl<'i, 'k, 'a> Instance<'i, 'k, 'a> {
         ensures { result ≡ ground_value (instance_of self.now) fv.now }
     {
         match self.clause.known().declaration(&fv.atom.name) {
-            Some(name) => match place_in(name.values.as_slice(), &fv.value) {
+            Some(name) => match place_in(name.values.as_slice(), fv.value.as_str().as_bytes()) {
                 Some(value) => value as u32,
                 None => 0,
             },
@@ -184,6 +170,7 @@ impl<'i, 'k, 'a> Instance<'i, 'k, 'a> {
         }
     }
 
+    // What a condition on an event, or on the start or the end of a value, asks for.
     fn event(&self, event: &EventText) -> Trigger
         ensures { result ≡ ground_event (instance_of self.now) event.now }
     {
@@ -229,6 +216,7 @@ impl<'i, 'k, 'a> Instance<'i, 'k, 'a> {
         Ok(())
     }
 
+    // The conditions without variables.
     fn conditions(&self, alloc: Global, bodies: &[Body]) -> Result<List<Cond>, OutOfMemory>
         ensures { IfOk result (λ conds. conds
             ≡ filter_map (ground_condition (instance_of self.now)) bodies.now) }
@@ -260,7 +248,7 @@ impl<'i, 'k, 'a> Instance<'i, 'k, 'a> {
         }
     }
 
-    /// The number of the unit in the head.
+    // The number of the unit in the head.
     pub(crate) fn unit(&self) -> u32
         ensures { result ≡ head_unit (instance_of self.now) }
     {
@@ -274,7 +262,7 @@ impl<'i, 'k, 'a> Instance<'i, 'k, 'a> {
         }
     }
 
-    /// The number of the value in the head, 0 for a derived event.
+    // The number of the value in the head, 0 for a derived event.
     pub(crate) fn head_value(&self) -> u32
         ensures { result ≡ head_value (instance_of self.now) }
     {
@@ -287,7 +275,7 @@ impl<'i, 'k, 'a> Instance<'i, 'k, 'a> {
         }
     }
 
-    /// The value that an `initially` statement gives; None where the statement is another.
+    // The value that an `initially` statement gives; None where the statement is another.
     pub(crate) fn opening(&self) -> Option<u32>
         ensures { result ≡ opening_by (instance_of self.now) (clause_of self.now.clause.now).form }
     {
@@ -297,7 +285,7 @@ impl<'i, 'k, 'a> Instance<'i, 'k, 'a> {
         }
     }
 
-    /// The rule that the statement is, where it is of this part.
+    // The rule that the statement is, where it is of this part.
     pub(crate) fn rule_of(&self, alloc: Global, part: Part) -> Result<Option<Rule>, OutOfMemory>
         ensures { IfOk result (λ rule. rule ≡ rule_by part (instance_of self.now)
             (clause_of self.now.clause.now).form) }
@@ -323,12 +311,14 @@ impl<'i, 'k, 'a> Instance<'i, 'k, 'a> {
             Tree::Union(members) => Ok(Expr::Union(self.expressions(alloc, members)?)),
             Tree::Intersect(members) => Ok(Expr::Intersect(self.expressions(alloc, members)?)),
             Tree::Complement(first, others) => {
-                let first = Box::new(alloc, self.expression(alloc, first)?)?;
-                Ok(Expr::Complement(first, self.expressions(alloc, others)?))
+                let first = self.expression(alloc, first)?;
+                let others = self.expressions(alloc, others)?;
+                complement_expr(alloc, first, others)
             }
         }
     }
 
+    // Expressions without variables.
     #[cycle(expression)]
     fn expressions(&self, alloc: Global, trees: &[Tree]) -> Result<Vec<Expr>, OutOfMemory>
         ensures { IfOk result (λ exprs. map plain_expr exprs.items
@@ -341,7 +331,7 @@ impl<'i, 'k, 'a> Instance<'i, 'k, 'a> {
         Ok(exprs)
     }
 
-    /// The expression of a `holdsFor` statement; None where the statement is another.
+    // The expression of a `holdsFor` statement; None where the statement is another.
     pub(crate) fn expression_of(&self, alloc: Global) -> Result<Option<Expr>, OutOfMemory>
         ensures { IfOk result (λ expr. option_map plain_expr expr
             ≡ expression_by (instance_of self.now) (clause_of self.now.clause.now).form) }

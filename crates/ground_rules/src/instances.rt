@@ -1,7 +1,7 @@
 // The instances of a description, listed by the units in their heads.
 ghost use Rattle.std.specs.Prelude.{◌≡◌, true, map};
 ghost use Rattle.std.specs.List.{list_all};
-ghost use Rattle.domain_decl.specs.Contents.{is_rule};
+ghost use Rattle.rule_forms.specs.Forms.{is_rule};
 ghost use Rattle.ground_rules.specs.Clauses.{clause_of};
 ghost use Rattle.ground_rules.specs.Limits.{rule_count};
 ghost use Rattle.ground_rules.specs.Origins.{AreOrigins, AreFew};
@@ -16,7 +16,7 @@ use crate::units::Origin;
 pub struct Instances<'k, 'a> {
     pub(crate) clauses: Vec<Clause<'k, 'a>>,
     pub(crate) origins: Buckets<Origin>,
-    /// How many instances of rules and `holdsFor` statements there are.
+    // How many instances of rules and `holdsFor` statements there are.
     pub(crate) rules: u64,
     ghost are_rules: { list_all (λ clause. is_rule clause.form) (map clause_of clauses.items)
         ≡ true },

@@ -1,10 +1,10 @@
 // Laws of grounding.
 ghost use Rattle.std.specs.Prelude.{ℕ, List, ◌≡◌, map, None};
-ghost use Rattle.rule_read.specs.Forms.{plain};
-ghost use Rattle.domain_decl.specs.declared.checked.Checked.{Checked};
-ghost use Rattle.domain_decl.specs.Accepted.{plain_checked};
-ghost use Rattle.domain_decl.specs.Sound.{IsSound as IsSoundChecked};
-ghost use Rattle.strata_check.specs.Layers.{IsLayering};
+ghost use Rattle.rule_forms.specs.Forms.{plain};
+ghost use Rattle.decl_known.specs.declared.checked.Checked.{Checked};
+ghost use Rattle.decl_known.specs.Checked.{plain_checked};
+ghost use Rattle.decl_known.specs.Sound.{IsSound as IsSoundChecked};
+ghost use Rattle.decl_known.specs.Layers.{IsLayering};
 ghost use Rattle.ground_types.specs.declared.program.Program.{Program};
 ghost use Rattle.ground_types.specs.Sound.{IsSound};
 ghost use Rattle.ground_rules.specs.Grounded.{plain_program, grounded};

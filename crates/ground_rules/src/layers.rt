@@ -7,6 +7,7 @@ use ground_types::{Unit, UnitId};
 use rt_base::{List, OutOfMemory};
 use std::alloc::Global;
 
+// The greatest layer of a name, 0 where there is none.
 fn greatest_layer(of_name: &[u32]) -> u32
     ensures { result ≡ greatest_layer of_name.now }
 {
@@ -27,7 +28,7 @@ fn unit_layer(of_name: &[u32], unit: &Unit) -> u32
     }
 }
 
-/// The units of layer 1, of layer 2 and so on, from the layers of their names.
+// The units of layer 1, of layer 2 and so on, from the layers of their names.
 pub(crate) fn layers_of(
     alloc: Global,
     of_name: &[u32],

@@ -2,11 +2,10 @@
 ghost use Rattle.std.specs.Prelude.{◌≡◌, ◌≤◌, ◌*◌, nat_lt, true, map, flat_map, filter, length, Ok};
 ghost use Rattle.std.specs.Prelude.{Err, IfOk, if◌then◌else◌};
 ghost use Rattle.std.specs.List.{list_all};
-ghost use Rattle.rule_read.specs.Forms.{plain_form, plain_tree};
-ghost use Rattle.ground_types.specs.Sound.{is_input};
-ghost use Rattle.domain_decl.specs.Mentions.{leaves, leaves_of};
-ghost use Rattle.domain_decl.specs.Sound.{is_sound_domain};
-ghost use Rattle.ground_rules.specs.Counted.{capped};
+ghost use Rattle.rule_forms.specs.Forms.{plain_form, plain_tree};
+ghost use Rattle.decl_known.specs.Mentions.{leaves, leaves_of};
+ghost use Rattle.decl_known.specs.Sound.{is_sound_domain};
+ghost use Rattle.ground_names.specs.Counted.{capped};
 ghost use Rattle.ground_rules.specs.Assignments.{assignments, instances};
 ghost use Rattle.ground_rules.specs.Grounded.{event_count};
 ghost use Rattle.ground_rules.specs.Limits.{unit_count, rows_of_unit, row_count, assignment_count};
@@ -19,23 +18,15 @@ ghost use Rattle.ground_rules.specs.declared.refused.GroundRefused.TheVariants.{
 
 use crate::clause::Clause;
 use crate::instance::Instance;
-use crate::lists::count_arguments;
 use crate::refused::GroundRefused;
-use domain_decl::conditions_of;
-use ground_types::{Domain, Name, NameKind};
+use ground_names::count_arguments;
+use ground_types::{Domain, Name, NameKind, is_input};
 use rt_base::{Limit, OutOfMemory};
-use rule_read::{Body, Form, Tree};
+use rule_forms::{Body, Form, Tree, conditions_of};
 use std::alloc::Global;
 
-/// Whether a name of this kind is an input event.
-pub(crate) fn is_input(kind: NameKind) -> bool
-    ensures { result ≡ is_input kind }
-{
-    matches!(kind, NameKind::Input)
-}
-
-/// How many units there are, or the greatest number where there are more; so it is with each count
-/// here.
+// How many units there are, or the greatest number where there are more; so it is with each count
+// here.
 pub(crate) fn unit_count(domains: &[Domain], names: &[Name]) -> u64
     requires { list_all is_sound_domain domains.now ≡ true }
     ensures { result ≡ capped (unit_count domains.now names.now) }
@@ -49,7 +40,7 @@ pub(crate) fn unit_count(domains: &[Domain], names: &[Name]) -> u64
     count
 }
 
-/// How many ground input events there are.
+// How many ground input events there are.
 pub(crate) fn event_count(domains: &[Domain], names: &[Name]) -> u64
     requires { list_all is_sound_domain domains.now ≡ true }
     ensures { result ≡ capped (event_count domains.now names.now) }
@@ -74,6 +65,7 @@ fn rows_of_unit(name: &Name) -> u64
     }
 }
 
+// How many rows all units have for one query.
 fn row_count(domains: &[Domain], names: &[Name]) -> u64
     requires { list_all is_sound_domain domains.now ≡ true }
     ensures { result ≡ capped (row_count domains.now names.now) }
@@ -86,6 +78,7 @@ fn row_count(domains: &[Domain], names: &[Name]) -> u64
     count
 }
 
+// How many assignments all statements have.
 fn assignment_count(clauses: &[Clause]) -> u64
     ensures { result ≡ capped (assignment_count (map clause_of clauses.now)) }
 {
@@ -115,6 +108,7 @@ fn instances_in(clause: &Clause, assignment: &mut Vec<u32>) -> Result<u64, OutOf
     Ok(count)
 }
 
+// Whether an instance of this statement counts as one of a rule.
 fn counts_as_rule(form: &Form) -> bool
     ensures { result ≡ counts_as_rule (plain_form form.now) }
 {
@@ -128,12 +122,14 @@ fn rules_among(form: &Form, instances: u64) -> u64
     if counts_as_rule(form) { instances } else { 0 }
 }
 
+// Whether a condition is not `\=`.
 fn is_condition(body: &Body) -> bool
     ensures { result ≡ is_condition body.now }
 {
     !matches!(body, Body::Unequal(..))
 }
 
+// How many fluent-values an expression has.
 #[cycle(leaves)]
 fn leaf_count(tree: &Tree) -> u64
     ensures { result ≡ capped (length (leaves (plain_tree tree.now))) }
@@ -148,6 +144,7 @@ fn leaf_count(tree: &Tree) -> u64
     }
 }
 
+// How many fluent-values some expressions have.
 #[cycle(leaves)]
 fn leaves_of_all(trees: &[Tree]) -> u64
     ensures { result ≡ capped (length (flat_map (λ tree. leaves (plain_tree tree)) trees.now)) }
@@ -159,6 +156,7 @@ fn leaves_of_all(trees: &[Tree]) -> u64
     count
 }
 
+// How many fluent-values the expression of a statement has, 0 where it has none.
 fn leaves_in(form: &Form) -> u64
     ensures { result ≡ capped (length (leaves_of (plain_form form.now))) }
 {
@@ -195,6 +193,7 @@ struct Totals {
     conditions: u64,
 }
 
+// What the instances of the statements come to, counted one by one.
 fn totals_of(alloc: Global, clauses: &[Clause]) -> Result<Totals, OutOfMemory>
     requires { assignment_count (map clause_of clauses.now) ≤ 1048576 }
     ensures rules { IfOk result (λ totals. totals.rules
@@ -217,7 +216,7 @@ fn totals_of(alloc: Global, clauses: &[Clause]) -> Result<Totals, OutOfMemory>
     Ok(totals)
 }
 
-/// How many instances of rules and `holdsFor` statements the statements have.
+// How many instances of rules and `holdsFor` statements the statements have.
 pub(crate) fn rule_count(alloc: Global, clauses: &[Clause]) -> Result<u64, OutOfMemory>
     requires { assignment_count (map clause_of clauses.now) ≤ 1048576 }
     ensures { IfOk result (λ count. count ≡ capped (rule_count (map clause_of clauses.now))) }
@@ -236,7 +235,7 @@ fn test(count: u64, most: u64, limit: Limit) -> Result<(), GroundRefused>
     Ok(())
 }
 
-/// Tests how many units and ground input events the names come to.
+// Tests how many units and ground input events the names come to.
 pub(crate) fn test_names(domains: &[Domain], names: &[Name]) -> Result<(), GroundRefused>
     requires { list_all is_sound_domain domains.now ≡ true }
     ensures { Tests result (first_exceeded (name_tests domains.now names.now)) }
@@ -245,8 +244,8 @@ pub(crate) fn test_names(domains: &[Domain], names: &[Name]) -> Result<(), Groun
     test(event_count(domains, names), 16_777_216, Limit::Events)
 }
 
-/// Tests how many assignments, instances and conditions the statements come to. The instances are
-/// counted one by one, once it is known that there are not too many assignments.
+// Tests how many assignments, instances and conditions the statements come to. The instances are
+// counted one by one, once it is known that there are not too many assignments.
 pub(crate) fn test_clauses(alloc: Global, clauses: &[Clause]) -> Result<(), GroundRefused>
     ensures { Tests result (first_exceeded (clause_tests (map clause_of clauses.now))) }
 {
@@ -256,7 +255,7 @@ pub(crate) fn test_clauses(alloc: Global, clauses: &[Clause]) -> Result<(), Grou
     test(totals.conditions, 2_097_152, Limit::Conditions)
 }
 
-/// Tests how many rows all queries together have.
+// Tests how many rows all queries together have.
 pub(crate) fn test_rows(
     domains: &[Domain],
     names: &[Name],

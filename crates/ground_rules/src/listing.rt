@@ -1,8 +1,8 @@
 // What is asked of the instances of a description.
 ghost use Rattle.std.specs.Prelude.{◌≡◌, ◌<◌, None, Some, length, slice_get, option_map, IfOk};
-ghost use Rattle.rule_read.specs.Forms.{plain_form};
-ghost use Rattle.domain_decl.specs.Sound.{IsSound as IsSoundChecked};
-ghost use Rattle.domain_decl.specs.Accepted.{plain_checked};
+ghost use Rattle.rule_forms.specs.Forms.{plain_form};
+ghost use Rattle.decl_known.specs.Sound.{IsSound as IsSoundChecked};
+ghost use Rattle.decl_known.specs.Checked.{plain_checked};
 ghost use Rattle.ground_rules.specs.Grounded.{numbered_names};
 ghost use Rattle.ground_rules.specs.Limits.{exceeded, rule_count};
 ghost use Rattle.ground_rules.specs.Stated.{stated};
@@ -12,10 +12,10 @@ use crate::grounding::clauses_of;
 use crate::instances::Instances;
 use crate::limits::{rule_count, unit_count};
 use crate::units::{enter, origins_of};
-use domain_decl::{Checked, Known};
+use decl_known::{Checked, Known};
 use ground_types::UnitId;
 use rt_base::OutOfMemory;
-use rule_read::Form;
+use rule_forms::Form;
 use std::alloc::Global;
 
 impl<'k, 'a> Instances<'k, 'a> {

@@ -2,16 +2,17 @@
 ghost use Rattle.std.specs.Prelude.{◌≡◌, ◌+◌, ◌^◌, ◌<◌, ◌≤◌, true, IfOk, if◌then◌else◌};
 ghost use Rattle.std.specs.List.{list_all};
 ghost use Rattle.ground_types.specs.Sound.{is_input};
-ghost use Rattle.domain_decl.specs.Sound.{is_sound_domain};
-ghost use Rattle.ground_rules.specs.Numbers.{with_first, numbered};
+ghost use Rattle.decl_known.specs.Sound.{is_sound_domain};
+ghost use Rattle.ground_names.specs.Numbers.{with_first, numbered};
 ghost use Rattle.ground_rules.specs.Grounded.{event_count};
 ghost use Rattle.ground_rules.specs.Limits.{unit_count};
 
-use crate::lists::count_arguments;
+use ground_names::count_arguments;
 use ground_types::{Domain, Name, NameKind};
 use rt_base::{List, OutOfMemory, Word};
 use std::alloc::Global;
 
+// A copy of words.
 fn copied_words(alloc: Global, words: &[Word]) -> Result<List<Word>, OutOfMemory>
     ensures { IfOk result (λ list. list ≡ words.now) }
 {
@@ -22,7 +23,7 @@ fn copied_words(alloc: Global, words: &[Word]) -> Result<List<Word>, OutOfMemory
     Ok(List::of(list))
 }
 
-/// Copies of domains.
+// Copies of domains.
 pub(crate) fn copied_domains(alloc: Global, domains: &[Domain]) -> Result<List<Domain>, OutOfMemory>
     ensures { IfOk result (λ list. list ≡ domains.now) }
 {
@@ -83,7 +84,7 @@ impl Counts {
     }
 }
 
-/// Copies of names, numbered.
+// Copies of names, numbered.
 pub(crate) fn numbered(
     alloc: Global,
     domains: &[Domain],

@@ -5,35 +5,35 @@ ghost use Rattle.std.specs.Prelude.{IfOk};
 ghost use Rattle.std.specs.List.{list_all, range_with_len};
 ghost use Rattle.ground_types.specs.Members.{contains};
 ghost use Rattle.ground_types.specs.Sound.{is_input, argument_lists};
-ghost use Rattle.domain_decl.specs.Sound.{is_sound_domain};
-ghost use Rattle.ground_rules.specs.Counted.{has_small_numbers};
+ghost use Rattle.decl_known.specs.Sound.{is_sound_domain};
+ghost use Rattle.ground_names.specs.Counted.{has_small_numbers};
 ghost use Rattle.ground_rules.specs.Assignments.{instances};
 ghost use Rattle.ground_rules.specs.Atoms.{head_value, Union_is, all_of, plain_expr};
 ghost use Rattle.ground_rules.specs.Grounded.{plain_kind, plain_unit, expression_by, opening_by};
 ghost use Rattle.ground_rules.specs.Grounded.{opening_of, union_for, kind_by, units_by, units_of};
-ghost use Rattle.ground_rules.specs.Clauses.{clause_of, instance_of, rule_by};
+ghost use Rattle.ground_rules.specs.Clauses.{clause_of};
+ghost use Rattle.ground_rules.specs.LentInstances.{instance_of, rule_by};
 ghost use Rattle.ground_rules.specs.Limits.{assignment_count};
 ghost use Rattle.ground_rules.specs.Origins.{gathered, put, count_at, is_origin, instance_at};
-ghost use Rattle.ground_rules.specs.Origins.{unit_at, is_permitted_at, origins_at, origins_of};
+ghost use Rattle.ground_rules.specs.Origins.{origin_unit, is_permitted_at, origins_at, origins_of};
 ghost use Rattle.ground_rules.specs.Origins.{AreOrigins, AreFew, has_units_below, lesser};
 
 use crate::buckets::Buckets;
 use crate::clause::Clause;
 use crate::instance::{Instance, Part};
-use crate::limits::is_input;
-use crate::lists::{count_lists, list_at, sizes_of};
-use ground_types::{Domain, Expr, Name, NameKind, Rule, Unit, UnitKind};
+use ground_names::{count_lists, list_at, sizes_of};
+use ground_types::{Domain, Expr, Name, NameKind, Rule, Unit, UnitKind, is_input};
 use rt_base::{List, OutOfMemory};
 use std::alloc::Global;
 
-/// Where an instance comes from: the place of its statement and the number of its assignment.
+// Where an instance comes from: the place of its statement and the number of its assignment.
 #[derive(Clone, Copy, Debug, PartialEq, Eq)]
 pub(crate) struct Origin {
     pub statement: usize,
     pub assignment: u32,
 }
 
-/// The instance of an origin, with a list in which its assignment is made.
+// The instance of an origin, with a list in which its assignment is made.
 pub(crate) fn enter<'i, 'k, 'a>(
     clauses: &'i [Clause<'k, 'a>],
     origin: Origin,
@@ -59,7 +59,7 @@ fn add_origin(
     origins: &mut Buckets<Origin>,
 ) -> Result<(), OutOfMemory>
     requires { is_origin (map clause_of clauses.now) origin ≡ true }
-    ensures { IfOk result (λ _. origins.new ≡ fold (put (unit_at (map clause_of clauses.now)))
+    ensures { IfOk result (λ _. origins.new ≡ fold (put (origin_unit (map clause_of clauses.now)))
         origins.old (cond (is_permitted_at (map clause_of clauses.now) origin) (origin ∷ []) [])) }
 {
     let instance = enter(&*clauses, origin, assignment)?;
@@ -78,7 +78,7 @@ fn add_origins(
 ) -> Result<(), OutOfMemory>
     requires inside { statement < length clauses.now }
     requires few { count_at (map clause_of clauses.now) statement < 2 ^ 32 }
-    ensures { IfOk result (λ _. origins.new ≡ fold (put (unit_at (map clause_of clauses.now)))
+    ensures { IfOk result (λ _. origins.new ≡ fold (put (origin_unit (map clause_of clauses.now)))
         origins.old (origins_at (map clause_of clauses.now) statement)) }
 {
     for number in 0..clauses[statement].count() as u32 {
@@ -91,15 +91,15 @@ fn add_origins(
     Ok(())
 }
 
-/// For each of so many units the permitted origins of the instances that have it as head, in the
-/// order of the text and then of the assignments.
+// For each of so many units the permitted origins of the instances that have it as head, in the
+// order of the text and then of the assignments.
 pub(crate) fn origins_of(
     alloc: Global,
     clauses: &[Clause],
     units: usize,
 ) -> Result<Buckets<Origin>, OutOfMemory>
     requires { AreFew (map clause_of clauses.now) }
-    ensures { IfOk result (λ lists. lists ≡ gathered (unit_at (map clause_of clauses.now)) units
+    ensures { IfOk result (λ lists. lists ≡ gathered (origin_unit (map clause_of clauses.now)) units
         (origins_of (map clause_of clauses.now))) }
 {
     let mut origins = Buckets::new(alloc, units)?;
@@ -210,7 +210,7 @@ fn by_value(
 }
 
 // The union of the expressions of some instances.
-fn union_of(alloc: Global, clauses: &[Clause], mine: &[Origin]) -> Result<Expr, OutOfMemory>
+fn union_over(alloc: Global, clauses: &[Clause], mine: &[Origin]) -> Result<Expr, OutOfMemory>
     requires { list_all (is_origin (map clause_of clauses.now)) mine.now ≡ true }
     ensures { IfOk result (λ expr. plain_expr expr
         ≡ Union_is (all_of (filter_map (λ i. expression_by i i.clause.form)
@@ -242,9 +242,27 @@ fn unions_of(
     let origins = by_value(alloc, values, clauses, mine)?;
     let mut exprs = Vec::with_capacity(alloc, values)?;
     for value in 0..values {
-        exprs.push(union_of(alloc, clauses, origins.get(value))?)?;
+        exprs.push(union_over(alloc, clauses, origins.get(value))?)?;
     }
     Ok(List::of(exprs))
+}
+
+// What a unit of a simple fluent with so many values is, from the instances that have it as head.
+fn simple_of(
+    alloc: Global,
+    values: usize,
+    clauses: &[Clause],
+    mine: &[Origin],
+) -> Result<UnitKind, OutOfMemory>
+    requires { list_all (is_origin (map clause_of clauses.now)) mine.now ≡ true }
+    ensures { IfOk result (λ kind. plain_kind kind ≡ kind_by NameKind.Simple values
+        (map (instance_at (map clause_of clauses.now)) mine.now)) }
+{
+    Ok(UnitKind::Simple {
+        initially: opening_of(alloc, values, clauses, mine)?,
+        initiate: rules_of(alloc, Part::Initiation, clauses, mine)?,
+        terminate: rules_of(alloc, Part::Termination, clauses, mine)?,
+    })
 }
 
 // What a unit of a name is, from the instances that have it as head.
@@ -260,11 +278,7 @@ fn kind_of(
 {
     let values = name.values.as_slice().len();
     match name.kind {
-        NameKind::Simple => Ok(UnitKind::Simple {
-            initially: opening_of(alloc, values, clauses, mine)?,
-            initiate: rules_of(alloc, Part::Initiation, clauses, mine)?,
-            terminate: rules_of(alloc, Part::Termination, clauses, mine)?,
-        }),
+        NameKind::Simple => simple_of(alloc, values, clauses, mine),
         NameKind::Static => Ok(UnitKind::Static(unions_of(alloc, values, clauses, mine)?)),
         _ => Ok(UnitKind::Derived(rules_of(alloc, Part::Occurrence, clauses, mine)?)),
     }
@@ -330,8 +344,8 @@ fn add_units(
     Ok(())
 }
 
-/// The units of these names, which are numbered, in order, each with the instances that define it.
-/// Their number is given.
+// The units of these names, which are numbered, in order, each with the instances that define it.
+// Their number is given.
 pub(crate) fn units_of(
     alloc: Global,
     domains: &[Domain],

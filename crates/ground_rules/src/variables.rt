@@ -1,15 +1,15 @@
 // The variables of a statement, each once, in the order of their first occurrence.
 ghost use Rattle.std.specs.Prelude.{◌≡◌, ◌∷◌, ◌++◌, [], map, flat_map, filter_map, fold, IfOk};
-ghost use Rattle.rule_read.specs.Forms.{plain_form, plain_tree};
-ghost use Rattle.domain_decl.specs.Lists.{has};
-ghost use Rattle.domain_decl.specs.Mentions.{leaves, variable_in, variables};
+ghost use Rattle.rule_forms.specs.Forms.{plain_form, plain_tree, conditions_of};
+ghost use Rattle.ground_types.specs.Words.{has};
+ghost use Rattle.decl_known.specs.Mentions.{leaves, variable_in, variables, head_of, leaves_of};
 ghost use Rattle.ground_rules.specs.Assignments.{variables_in, with_word, variables_of};
 
-use domain_decl::atom_of;
 use rt_base::{OutOfMemory, Word};
-use rule_read::{Atom, Body, Form, Term, Tree};
+use rule_forms::{Atom, Body, Form, Term, Tree, atom_of};
 use std::alloc::Global;
 
+// Whether a word is one of others.
 fn has_word(words: &[&Word], word: &Word) -> bool
     ensures { result ≡ has (map (λ other. other.now) words.now) word.now }
 {
@@ -81,6 +81,7 @@ fn add_leaves<'a>(tree: &'a Tree, into: &mut Vec<&'a Word>) -> Result<(), OutOfM
     }
 }
 
+// Adds the variables of expressions.
 #[cycle(leaves)]
 fn add_all_leaves<'a>(trees: &'a [Tree], into: &mut Vec<&'a Word>) -> Result<(), OutOfMemory>
     ensures { IfOk result (λ _. map (λ other. other.now) into.new.items ≡ fold with_word
@@ -118,22 +119,32 @@ fn add_rule<'a>(
     add_conditions(bodies, into)
 }
 
-/// The variables of a statement, each once, in the order of their first occurrence in the text.
+// Adds the variables of a statement.
+fn add_form<'a>(form: &'a Form, into: &mut Vec<&'a Word>) -> Result<(), OutOfMemory>
+    ensures { IfOk result (λ _. map (λ other. other.now) into.new.items ≡ fold with_word
+        (map (λ other. other.now) into.old.items) (variables (head_of (plain_form form.now))
+        ++ (flat_map variables_in (conditions_of (plain_form form.now))
+        ++ variables (leaves_of (plain_form form.now))))) }
+{
+    match form {
+        Form::Initially(fv) => add_atom(&fv.atom, into),
+        Form::Initiated(fv, bodies) => add_rule(&fv.atom, bodies.as_slice(), into),
+        Form::Terminated(fv, bodies) => add_rule(&fv.atom, bodies.as_slice(), into),
+        Form::Happens(atom, bodies) => add_rule(atom, bodies.as_slice(), into),
+        Form::HoldsFor(fv, tree) => {
+            add_atom(&fv.atom, into)?;
+            add_leaves(tree, into)
+        }
+        _ => Ok(()),
+    }
+}
+
+// The variables of a statement, each once, in the order of their first occurrence in the text.
 pub(crate) fn variables_of<'a>(alloc: Global, form: &'a Form) -> Result<Vec<&'a Word>, OutOfMemory>
     ensures { IfOk result (λ found. map (λ word. word.now) found.items
         ≡ variables_of (plain_form form.now)) }
 {
     let mut found = Vec::new(alloc);
-    match form {
-        Form::Initially(fv) => add_atom(&fv.atom, &mut found)?,
-        Form::Initiated(fv, bodies) => add_rule(&fv.atom, bodies.as_slice(), &mut found)?,
-        Form::Terminated(fv, bodies) => add_rule(&fv.atom, bodies.as_slice(), &mut found)?,
-        Form::Happens(atom, bodies) => add_rule(atom, bodies.as_slice(), &mut found)?,
-        Form::HoldsFor(fv, tree) => {
-            add_atom(&fv.atom, &mut found)?;
-            add_leaves(tree, &mut found)?;
-        }
-        _ => {}
-    }
+    add_form(form, &mut found)?;
     Ok(found)
 }

@@ -14,11 +14,12 @@ use Rattle.std.specs.Str.{bytes_eq}
 use Rattle.ground_types.specs.Sound.{entity_count, argument_lists, domain_sizes, arguments_of}
 use Rattle.ground_types.specs.declared.program.Domain.{Domain}
 use Rattle.ground_types.specs.declared.program.Name.{Name}
-use Rattle.domain_decl.specs.Lists.{place_in}
-use Rattle.domain_decl.specs.Rules.{entities_in, entities_of}
-use Rattle.ground_rules.specs.Counted.{capped, has_small_numbers}
-use Rattle.ground_rules.specs.Found.{entities_named}
-use Rattle.ground_rules.specs.Numbers.{number_of}
+use Rattle.ground_types.specs.Words.{place_in, entities_in, entities_of}
+use Rattle.ground_names.proofs.Led.{count_is}
+use Rattle.ground_names.proofs.Caps.{capped_small}
+use Rattle.ground_names.specs.Counted.{capped, has_small_numbers}
+use Rattle.ground_names.specs.Found.{entities_named}
+use Rattle.ground_names.specs.Numbers.{number_of}
 use Rattle.stream_read.specs.Looked.{place_from}
 
 -- ---- the first place at which a test passes, in one list behind another
@@ -144,9 +145,6 @@ rank_is_place (size ∷ sizes) (e ∷ es) below =
 abbrev greatest : ℕ
 greatest = 2 ^ 64 - 1
 
-capped_small : (n : ℕ) → n < 2 ^ 64 → capped n ≡ n
-capped_small n small = min-eq_left (omega (arith, small))
-
 capped_over : (n : ℕ) → greatest ≤ n → capped n ≡ greatest
 capped_over n over = min-eq_right over
 
@@ -183,10 +181,6 @@ pub too_few : (domains : List Domain) (place : ℕ) (ds : List ℕ) → 0 < leng
     → place_from domains place ds [] ≡ None
 too_few domains place [] some = absurd (omega (arith, some))
 too_few domains place (d ∷ ds) some = refl
-
-count_is : (o : Option Domain) → entity_count o ≡ length (entities_in o)
-count_is None = refl
-count_is (Some domain) = refl
 
 module _ (domains : List Domain) where
   abbrev size_of : ℕ → ℕ

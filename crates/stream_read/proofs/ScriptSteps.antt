@@ -14,9 +14,9 @@ use Rattle.stream_read.specs.declared.script.Script.{Script}
 use Rattle.stream_read.specs.declared.script.StreamRefused.{StreamRefused}
 use Rattle.stream_read.specs.declared.script.StreamRefused.TheVariants as refused
 use Rattle.stream_read.specs.Records.{meaning_of}
-use Rattle.stream_read.specs.Gathering.{Gathered, added, answer_of, script_from}
+use Rattle.stream_read.specs.Gathering.{Gathered, added, answer_of, script_from, Ends}
 use Rattle.stream_read.specs.Scripts.{most, has_no_form, is_ignored, placed_from, answer_by}
-use Rattle.stream_read.specs.Scripts.{script_of}
+use Rattle.stream_read.specs.Scripts.{script_of, Answers}
 
 placed : {X : Type 0} (b : Bool) (x : X) (xs : List X) (n : ℕ) →
     cond (nat_lt (cond (not b) (1 + n) 0) (length (x ∷ xs))) (Some (cond (not b) (1 + n) 0)) None
@@ -143,3 +143,15 @@ pub begins : (program : Program) (shape : Shape) (before : Gathered)
     → script_from program shape 0 before all ≡ script_of program shape rows
 begins program shape before all rows fresh same =
     rw (fresh, same) (sym (all_in_turn program shape rows))
+
+-- what is refused at the end of the records that may be is what all of them come to
+pub ended : (program : Program) (shape : Shape) (rows : List (List (List ℕ))) (count : ℕ)
+    (before : Gathered) (all : Result Script StreamRefused) (e : StreamRefused) → count ≡ most
+    → Ends rows (Err e) → script_from program shape count before rows ≡ all → Answers (Err e) all
+ended program shape rows count before all refused.OutOfMemory at ends whole = tt
+ended program shape rows count before all refused.TooMany at ends whole =
+    sym (ends program shape before)
+    ∙ ap (λ c. script_from program shape c before rows) (sym at) ∙ whole
+ended program shape rows count before all (refused.BadRecord n) at ends whole =
+    sym (ends program shape before)
+    ∙ ap (λ c. script_from program shape c before rows) (sym at) ∙ whole

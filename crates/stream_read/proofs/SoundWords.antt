@@ -7,8 +7,8 @@ use Rattle.ground_types.specs.Sound.{IsSound, is_distinct, are_constants, declar
 use Rattle.ground_types.specs.declared.program.Domain.{Domain}
 use Rattle.ground_types.specs.declared.program.Program.{Program}
 use Rattle.ground_types.proofs.Members.{and_left, and_right}
-use Rattle.domain_decl.specs.Contents.{domain_words, name_words}
-use Rattle.domain_decl.proofs.LookUps.{is_distinct-back}
+use Rattle.ground_types.specs.Words.{domain_words, name_words}
+use Rattle.word_table.proofs.LookUps.{is_distinct-back}
 
 pub distinct_names : (program : Program) → IsSound program → is_distinct (name_words program.names)
     ≡ true

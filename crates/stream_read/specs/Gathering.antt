@@ -1,6 +1,6 @@
 -- A script, record by record.
-use Rattle.std.specs.Prelude.{ℕ, ◌+◌, nat_lt, List, [], ◌∷◌, ◌++◌, Option, Some, None, Result, Ok}
-use Rattle.std.specs.Prelude.{Err, if◌then◌else◌}
+use Rattle.std.specs.Prelude.{◌≡◌, ◌≤◌, Bool, true, false, ℕ, ◌+◌, nat_lt, List, [], ◌∷◌, ◌++◌}
+use Rattle.std.specs.Prelude.{Option, Some, None, Result, Ok, Err, if◌then◌else◌}
 use Rattle.ground_types.specs.declared.program.Program.{Program}
 use Rattle.stream_read.specs.declared.records.Meaning.{Meaning}
 use Rattle.stream_read.specs.declared.records.Meaning.TheVariants.{Means, Ignored, NoForm}
@@ -11,6 +11,7 @@ use Rattle.stream_read.specs.declared.script.StreamRefused.{StreamRefused}
 use Rattle.stream_read.specs.declared.script.StreamRefused.TheVariants as refused
 use Rattle.stream_read.specs.Records.{meaning_of}
 use Rattle.stream_read.specs.Scripts.{most}
+use Rattle.stream_read.specs.Left.{TextReader, IsReading, left}
 
 -- the commands of records, and how many of the records are ignored
 pub record Gathered : Type 0 where
@@ -47,3 +48,24 @@ script_from program shape count before (row ∷ rows) =
     then answer_of (count + 1) (added (meaning_of program shape row) (count + 1) before)
     (λ next. script_from program shape (count + 1) next rows)
     else Err refused.TooMany
+
+-- What a step of gathering comes to, of the records that were left behind so many others: there was
+-- a record and it was gathered, there was none, or it refuses what all of them come to.
+abbrev pub Gathers : Program → Shape → ℕ → Gathered → Gathered → List (List (List ℕ)) → TextReader
+    → Result Bool StreamRefused → Type 0
+Gathers program shape count before after rows reader (Ok true) = IsReading reader
+    × (script_from program shape count before rows
+    ≡ script_from program shape (count + 1) after (left reader)) × (after.ignored ≤ count + 1)
+Gathers program shape count before after rows reader (Ok false) =
+    script_from program shape count before rows
+    ≡ Ok (record { commands = after.commands; ignored = after.ignored })
+Gathers program shape count before after rows reader (Err refused.OutOfMemory) = Unit {0}
+Gathers program shape count before after rows reader (Err refusal) =
+    script_from program shape count before rows ≡ Err refusal
+
+-- no record is left; or there is one, which is too many behind the most that there may be
+abbrev pub Ends : List (List (List ℕ)) → Result (Unit {0}) StreamRefused → Type 0
+Ends rows (Ok done) = rows ≡ []
+Ends rows (Err refused.OutOfMemory) = Unit {0}
+Ends rows (Err refusal) = (program : Program) (shape : Shape) (before : Gathered)
+    → script_from program shape most before rows ≡ Err refusal

@@ -1,11 +1,10 @@
 -- What a look-up has after each argument of a name. `entities_named` and `number_of` of
--- `ground_rules` say what it comes to.
+-- `ground_names` say what it comes to.
 use Rattle.std.specs.Prelude.{ℕ, ◌+◌, ◌*◌, List, [], ◌∷◌, length, Option, Some, None, option_map}
 use Rattle.std.specs.Prelude.{option_and_then}
 use Rattle.ground_types.specs.declared.program.Domain.{Domain}
-use Rattle.domain_decl.specs.Lists.{place_in}
-use Rattle.domain_decl.specs.Rules.{entities_of}
-use Rattle.ground_rules.specs.Counted.{capped}
+use Rattle.ground_types.specs.Words.{place_in, entities_of}
+use Rattle.ground_names.specs.Counted.{capped}
 
 -- one argument more, over the domain of this number; the greatest u64 where the place is more
 abbrev pub further : List Domain → ℕ → ℕ → List ℕ → Option ℕ

@@ -8,7 +8,7 @@ use Rattle.ground_types.specs.declared.entries.Query.TheVariants as query
 use Rattle.ground_types.specs.declared.entries.Command.{Command}
 use Rattle.ground_types.specs.declared.entries.Command.TheVariants as command
 use Rattle.ground_types.specs.declared.program.Program.{Program}
-use Rattle.ground_rules.specs.Found.{event_named, unit_named, value_named}
+use Rattle.ground_names.specs.Found.{event_named, unit_named, value_named}
 use Rattle.stream_read.specs.declared.script.Shape.{Shape}
 use Rattle.stream_read.specs.declared.script.Shape.TheVariants as shape
 use Rattle.stream_read.specs.declared.records.Meaning.{Meaning}
@@ -63,14 +63,18 @@ abbrev pub seal : List (List ℕ) → Meaning
 seal [] = Means command.Seal
 seal fields = NoForm
 
--- T,VALUE,NAME,ARGS, of a ground fluent-value
-abbrev pub ask_holds : Program → List (List ℕ) → Option Command
-ask_holds program (at ∷ value ∷ name ∷ args) =
+-- at a point, for a value of what a name and its arguments name
+abbrev pub holds_of : Program → List ℕ → List ℕ → List ℕ → List (List ℕ) → Option Command
+holds_of program at value name args =
     option_and_then (λ point.
     option_and_then (λ unit.
     option_map (λ v. command.Ask (query.Holds unit v point)) (value_named program unit value))
     (unit_named (record { program = program; word = name; args = args })))
     (number_of at)
+
+-- T,VALUE,NAME,ARGS, of a ground fluent-value
+abbrev pub ask_holds : Program → List (List ℕ) → Option Command
+ask_holds program (at ∷ value ∷ name ∷ args) = holds_of program at value name args
 ask_holds program fields = None
 
 abbrev pub ask_count : List (List ℕ) → Option Command

@@ -1,7 +1,7 @@
 //! Scripts: the records of CSV texts as commands for a program. Its promise: `commands` gives
 //! exactly the commands of the records and the count of the ignored ones, and refuses exactly where
 //! a record has no form or there are too many (want of memory aside). Records are what the crate
-//! `csv` says. It stands on `csv` and `indexmap`, on `ground_rules` and on what that stands on.
+//! `csv` says. It stands on `csv`, `word_table` and `ground_names`, and on what these stand on.
 #![tactic(auto)]
 
 mod fields;
@@ -11,10 +11,6 @@ mod records;
 mod rows;
 mod script;
 mod verbs;
-mod words;
 
 pub use reading::commands;
 pub use script::{Placed, Script, Shape, StreamRefused};
-
-#[cfg(test)]
-mod tests;

@@ -2,19 +2,18 @@
 ghost use Rattle.std.specs.Prelude.{◌≡◌, true, map, option_copied, option_and_then, slice_get};
 ghost use Rattle.std.specs.Prelude.{IfOk, IfSome};
 ghost use Rattle.std.specs.List.{list_all};
-ghost use Rattle.ground_types.specs.Sound.{IsSound, are_constants};
-ghost use Rattle.domain_decl.specs.Contents.{name_words};
-ghost use Rattle.domain_decl.specs.Rules.{declaration};
-ghost use Rattle.ground_rules.specs.Counted.{has_small_numbers};
-ghost use Rattle.ground_rules.specs.Found.{entities_named, event_named, unit_named};
-ghost use Rattle.ground_rules.specs.Numbers.{number_of};
+ghost use Rattle.ground_types.specs.Sound.{IsSound, are_constants, is_distinct};
+ghost use Rattle.ground_types.specs.Words.{name_words, declaration};
+ghost use Rattle.ground_names.specs.Counted.{has_small_numbers};
+ghost use Rattle.ground_names.specs.Found.{entities_named, event_named, unit_named};
+ghost use Rattle.ground_names.specs.Numbers.{number_of};
 ghost use Rattle.stream_read.specs.Looked.{further, place_from};
 
 use crate::fields::Fields;
-use crate::words::WordTable;
 use ground_types::{Domain, EventId, Name, NameKind, Program, UnitId};
 use rt_base::OutOfMemory;
 use std::alloc::Global;
+use word_table::WordTable;
 
 /// A program with tables in which its names and its entities are found. It borrows the program and
 /// copies no word.
@@ -31,6 +30,15 @@ pub(crate) struct Names<'a> {
     ghost listed: { entities.items ≡ map (λ domain. domain.entities) program.now.domains },
 }
 
+// The table of the entities of a domain.
+fn table_of(alloc: Global, domain: &Domain) -> Result<WordTable<'_>, OutOfMemory>
+    requires { is_distinct domain.now.entities ≡ true }
+    ensures { IfOk result (λ table. table ≡ domain.now.entities) }
+{
+    let table = WordTable::of(alloc, domain.entities.as_slice())?;
+    Ok(table)
+}
+
 // For each domain the table of its entities.
 fn tables_of<'a>(alloc: Global, domains: &'a [Domain]) -> Result<Vec<WordTable<'a>>, OutOfMemory>
     requires { list_all (λ domain. are_constants domain.entities) domains.now ≡ true }
@@ -38,7 +46,7 @@ fn tables_of<'a>(alloc: Global, domains: &'a [Domain]) -> Result<Vec<WordTable<'
 {
     let mut tables = Vec::with_capacity(alloc, domains.len())?;
     for domain in domains {
-        tables.push(WordTable::of_words(alloc, domain.entities.as_slice())?)?;
+        tables.push(table_of(alloc, domain)?)?;
     }
     Ok(tables)
 }
@@ -49,7 +57,7 @@ impl<'a> Names<'a> {
         requires { IsSound program.now }
         ensures { IfOk result (λ names. names.program.now ≡ program.now) }
     {
-        let by_word = WordTable::of_names(alloc, program.names.as_slice())?;
+        let by_word = WordTable::of(alloc, program.names.as_slice())?;
         let entities = tables_of(alloc, program.domains.as_slice())?;
         Ok(Names {
             program,

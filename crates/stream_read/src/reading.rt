@@ -1,14 +1,15 @@
 // The commands of a script.
-ghost use Rattle.std.specs.Prelude.{◌≡◌, ◌<◌, [], Some, None, IfOk, if◌then◌else◌};
+ghost use Rattle.std.specs.Prelude.{◌≡◌, ◌<◌, ◌≤◌, [], Some, None, IfOk, if◌then◌else◌};
 ghost use Rattle.ground_types.specs.Sound.{IsSound};
-ghost use Rattle.stream_read.specs.Gathering.{added};
-ghost use Rattle.stream_read.specs.Scripts.{records_of, script_of, Answers, IsShape};
+ghost use Rattle.stream_read.specs.Gathering.{added, Gathers, Ends};
+ghost use Rattle.stream_read.specs.Left.{left, IsReading};
+ghost use Rattle.stream_read.specs.Scripts.{most, records_of, script_of, Answers, IsShape};
 
 use crate::names::Names;
 use crate::records::{Meaning, meaning_of};
 use crate::rows::{next_row, reader_of};
 use crate::script::{Placed, Script, Shape, StreamRefused};
-use csv::ByteRecord;
+use csv::{ByteRecord, Reader};
 use ground_types::Program;
 use rt_base::{List, OutOfMemory};
 use std::alloc::Global;
@@ -74,6 +75,43 @@ impl Gathered {
     }
 }
 
+// Gathers the next record of a text, behind so many others, and says whether there was one.
+fn gather_next(
+    reader: &mut Reader<&[u8]>,
+    row: &mut ByteRecord,
+    names: &Names,
+    shape: Shape,
+    count: u32,
+    gathered: &mut Gathered,
+) -> Result<bool, StreamRefused>
+    requires sound { IsSound names.now.program.now }
+    requires reading { IsReading reader.old }
+    requires few { count < most }
+    requires counted { gathered.old.ignored ≤ count }
+    ensures { Gathers names.now.program.now shape count gathered.old gathered.new (left reader.old)
+        reader.new result }
+{
+    if !next_row(reader, row)? {
+        return Ok(false);
+    }
+    let number = count + 1;
+    if !gathered.add(number, meaning_of(names, shape, row))? {
+        return Err(StreamRefused::BadRecord { number });
+    }
+    Ok(true)
+}
+
+// Sees that no record of a text is left.
+fn at_end(reader: &mut Reader<&[u8]>, row: &mut ByteRecord) -> Result<(), StreamRefused>
+    requires { IsReading reader.old }
+    ensures { Ends (left reader.old) result }
+{
+    if next_row(reader, row)? {
+        return Err(StreamRefused::TooMany);
+    }
+    Ok(())
+}
+
 /// The commands of a script for this program, each with the number of its record, and how many
 /// records are ignored.
 ///
@@ -104,16 +142,10 @@ pub fn commands(
     let mut row = ByteRecord::new(alloc);
     let mut gathered = Gathered::new(alloc);
     for count in 0..MOST_RECORDS {
-        if !next_row(&mut reader, &mut row)? {
+        if !gather_next(&mut reader, &mut row, &names, shape, count, &mut gathered)? {
             return Ok(gathered.into_script());
         }
-        let number = count + 1;
-        if !gathered.add(number, meaning_of(&names, shape, &row))? {
-            return Err(StreamRefused::BadRecord { number });
-        }
     }
-    if next_row(&mut reader, &mut row)? {
-        return Err(StreamRefused::TooMany);
-    }
+    at_end(&mut reader, &mut row)?;
     Ok(gathered.into_script())
 }

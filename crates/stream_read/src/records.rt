@@ -2,18 +2,18 @@
 ghost use Rattle.std.specs.Prelude.{◌≡◌};
 ghost use Rattle.csv.specs.Records.{fields_of};
 ghost use Rattle.ground_types.specs.Sound.{IsSound};
-ghost use Rattle.ground_rules.specs.Found.{event_named};
+ghost use Rattle.ground_names.specs.Found.{event_named};
 ghost use Rattle.stream_read.specs.Fields.{only_number};
-ghost use Rattle.stream_read.specs.Records.{fed, feed, feed_of_feeder, seal, ask_holds, ask_count};
-ghost use Rattle.stream_read.specs.Records.{ask_block, ask, wait, after, or_no_form, meaning_by};
-ghost use Rattle.stream_read.specs.Records.{meaning_of};
+ghost use Rattle.stream_read.specs.Records.{fed, feed, feed_of_feeder, seal, holds_of, ask_holds};
+ghost use Rattle.stream_read.specs.Records.{ask_count, ask_block, ask, wait, after, or_no_form};
+ghost use Rattle.stream_read.specs.Records.{meaning_by, meaning_of};
 
 use crate::fields::{Fields, feeder, number};
 use crate::names::Names;
 use crate::script::Shape;
 use crate::verbs::{Verb, verb_of};
 use csv::ByteRecord;
-use ground_rules::value_of;
+use ground_names::value_of;
 use ground_types::{Act, Command, Query};
 
 /// What a record says in a script.
@@ -143,17 +143,31 @@ fn feed_of_feeder(names: &Names, act: Act, fields: &mut Fields) -> Meaning
     }
 }
 
+// A question for a value of what a name and its arguments name, at a point.
+fn holds_of(
+    names: &Names,
+    at: &[u8],
+    value: &[u8],
+    name: &[u8],
+    fields: &mut Fields,
+) -> Option<Command>
+    requires { IsSound names.now.program.now }
+    ensures { result ≡ holds_of names.now.program.now at.now value.now name.now fields.old }
+{
+    let at = number(at)?;
+    let unit = names.unit(name, fields)?;
+    let value = value_of(names.program, unit, value)?;
+    Some(Command::Ask(Query::Holds { unit, value, at }))
+}
+
 fn ask_holds(names: &Names, fields: &mut Fields) -> Option<Command>
     requires { IsSound names.now.program.now }
     ensures { result ≡ ask_holds names.now.program.now fields.old }
 {
-    let at_field = fields.next()?;
-    let value_field = fields.next()?;
+    let at = fields.next()?;
+    let value = fields.next()?;
     let name = fields.next()?;
-    let at = number(at_field)?;
-    let unit = names.unit(name, fields)?;
-    let value = value_of(names.program, unit, value_field)?;
-    Some(Command::Ask(Query::Holds { unit, value, at }))
+    holds_of(names, at, value, name, fields)
 }
 
 fn ask(names: &Names, fields: &mut Fields) -> Option<Command>

@@ -2,8 +2,8 @@ use Rattle.std.proofs.Common.{◌≡◌, find, option_map, ap, sym, ◌∙◌, r
 use Rattle.std.proofs.lemmas.Iterator.{YieldsList-from_slice}
 use Rattle.std.proofs.lemmas.Iterator.Search.{find_from_yields_List}
 use Rattle.std.specs.Str.{bytes_eq}
-use Rattle.domain_decl.specs.declared.variables.Place.{Place}
-use Rattle.domain_decl.specs.Gathered.{place_of}
+use Rattle.decl_known.specs.declared.variables.Place.{Place}
+use Rattle.decl_known.specs.Gathered.{place_of}
 use Rattle.ground_rules.specs.Assignments.{number_at}
 use Rattle.ground_rules.proofs.VariableDomains.{find_place}
 use Rattle.ground_rules.proofs.clause.domain_among.Goals as goal

@@ -1,7 +1,7 @@
 use Rattle.std.proofs.Common.{ℕ, List, [], ◌∷◌, ◌++◌, find, ap, ◌∙◌, Bor}
 use Rattle.std.specs.Str.{bytes_eq}
 use Rattle.rt_base.specs.declared.words.Word.{Word}
-use Rattle.domain_decl.specs.Gathered.{places_of}
+use Rattle.decl_known.specs.Gathered.{places_of}
 use Rattle.ground_rules.specs.Assignments.{number_at}
 use Rattle.ground_rules.proofs.Occurring.{one_more_mapped}
 use Rattle.ground_rules.proofs.clause.domains_of.Goals as goal

@@ -1,6 +1,6 @@
 use Rattle.std.proofs.Common.{◌≡◌, map, find, take}
 use Rattle.std.specs.Str.{bytes_eq}
-use Rattle.domain_decl.specs.Gathered.{places_of}
+use Rattle.decl_known.specs.Gathered.{places_of}
 use Rattle.ground_rules.specs.Assignments.{number_at}
 use Rattle.ground_rules.proofs.clause.domains_of.Given as goal
 

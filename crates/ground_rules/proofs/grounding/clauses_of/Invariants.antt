@@ -1,5 +1,5 @@
 use Rattle.std.proofs.Common.{◌≡◌, map, take}
-use Rattle.rule_read.specs.Forms.{plain}
+use Rattle.rule_forms.specs.Forms.{plain}
 use Rattle.ground_rules.specs.Clauses.{clause_of}
 use Rattle.ground_rules.specs.Grounded.{clauses_of}
 use Rattle.ground_rules.proofs.grounding.clauses_of.Given as goal

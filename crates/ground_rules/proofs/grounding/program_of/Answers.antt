@@ -1,14 +1,14 @@
 use Rattle.std.proofs.Common.{length, flat_map, ap, ap₂, sym, ◌∙◌, arith}
-use Rattle.domain_decl.specs.Accepted.{plain_checked}
-use Rattle.ground_rules.specs.Numbers.{numbered}
+use Rattle.decl_known.specs.Checked.{plain_checked}
+use Rattle.ground_names.specs.Numbers.{numbered}
 use Rattle.ground_rules.specs.Assignments.{instances}
 use Rattle.ground_rules.specs.Grounded.{clauses, units_of}
 use Rattle.ground_rules.specs.Limits.{first_exceeded, name_tests}
 use Rattle.ground_rules.proofs.NumberedNames.{length_units}
 use Rattle.ground_rules.proofs.grounding.program_of.Goals as goal
 
-pub layers_of-requires : goal.layers_of-requires
-layers_of-requires c =
+pub domains_and_layers-requires : goal.domains_and_layers-requires
+domains_and_layers-requires c =
     let checked = c.args.checked.now in
     let few = length_units checked c.requires (ap₂ (λ d n. first_exceeded (name_tests d n))
     (sym c.as_slice-domains.ensures) (sym c.as_slice-declared.ensures)
@@ -17,5 +17,5 @@ layers_of-requires c =
     (flat_map instances (clauses (plain_checked checked)))) (c.as_slice.ensures
     ∙ c.in_ok-names.ensures ∙ ap₂ (λ d n. numbered d 0 0 n) c.as_slice-domains.ensures
     c.as_slice-declared.ensures)) in
-    let same = ap length c.as_slice-3.ensures.value in
+    let same = ap length c.as_slice-2.ensures.value in
     omega (arith, few, same)

@@ -1,10 +1,10 @@
 use Rattle.std.proofs.Common.{◌+◌, ◌++◌, length, length-append, flat_map, ap, ap₂, ◌∙◌, sym}
-use Rattle.rule_read.specs.Forms.{plain_tree}
-use Rattle.domain_decl.specs.Mentions.{leaves}
-use Rattle.domain_decl.proofs.Gathering.{tree_leaves, union_leaves, intersect_leaves}
-use Rattle.domain_decl.proofs.Gathering.{complement_leaves}
-use Rattle.ground_rules.specs.Counted.{capped}
-use Rattle.ground_rules.proofs.Caps.{capped_add_both}
+use Rattle.rule_forms.specs.Forms.{plain_tree}
+use Rattle.decl_known.specs.Mentions.{leaves}
+use Rattle.decl_known.proofs.Gathering.{tree_leaves, union_leaves, intersect_leaves}
+use Rattle.decl_known.proofs.Gathering.{complement_leaves}
+use Rattle.ground_names.specs.Counted.{capped}
+use Rattle.ground_names.proofs.Caps.{capped_add_both}
 use Rattle.ground_rules.proofs.limits.+leaves.Goals as goal
 
 pub leaf_count-returns-in-Union : goal.leaf_count-returns-in-Union

@@ -1,6 +1,6 @@
 use Rattle.std.proofs.Common.{◌≡◌, take, length, flat_map}
-use Rattle.domain_decl.proofs.Gathering.{tree_leaves}
-use Rattle.ground_rules.specs.Counted.{capped}
+use Rattle.decl_known.proofs.Gathering.{tree_leaves}
+use Rattle.ground_names.specs.Counted.{capped}
 use Rattle.ground_rules.proofs.limits.+leaves.Given as goal
 
 abbrev pub invariant-leaves_of_all-loop-tree : goal.invariant-leaves_of_all-loop-tree

@@ -1,5 +1,5 @@
 use Rattle.std.proofs.Common.{◌≡◌, take, map}
-use Rattle.ground_rules.specs.Counted.{capped}
+use Rattle.ground_names.specs.Counted.{capped}
 use Rattle.ground_rules.specs.Limits.{assignment_count}
 use Rattle.ground_rules.specs.Clauses.{clause_of}
 use Rattle.ground_rules.proofs.limits.assignment_count.Given as goal

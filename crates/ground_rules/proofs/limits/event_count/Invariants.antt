@@ -1,5 +1,5 @@
 use Rattle.std.proofs.Common.{◌≡◌, take}
-use Rattle.ground_rules.specs.Counted.{capped}
+use Rattle.ground_names.specs.Counted.{capped}
 use Rattle.ground_rules.specs.Grounded.{event_count}
 use Rattle.ground_rules.proofs.limits.event_count.Given as goal
 

@@ -1,5 +1,5 @@
 use Rattle.std.proofs.Common.{◌≡◌, ◌*◌, if◌then◌else◌, map, take, ap, ◌∙◌, arith}
-use Rattle.ground_rules.specs.Counted.{capped}
+use Rattle.ground_names.specs.Counted.{capped}
 use Rattle.ground_rules.specs.Limits.{counts_as_rule, conditions_in}
 use Rattle.ground_rules.specs.Clauses.{clause_of}
 use Rattle.ground_rules.proofs.CountedClauses.{one_more, next_of, few_of}

@@ -1,5 +1,5 @@
 use Rattle.std.proofs.Common.{◌≡◌, take}
-use Rattle.ground_rules.specs.Counted.{capped}
+use Rattle.ground_names.specs.Counted.{capped}
 use Rattle.ground_rules.specs.Limits.{unit_count}
 use Rattle.ground_rules.proofs.limits.unit_count.Given as goal
 

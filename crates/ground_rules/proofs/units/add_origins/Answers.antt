@@ -2,7 +2,7 @@ use Rattle.std.proofs.Common.{◌≡◌, ◌∷◌, [], cond, map, length, ap, �
 use Rattle.std.specs.List.{fold}
 use Rattle.ground_rules.specs.Assignments.{assignments}
 use Rattle.ground_rules.specs.Clauses.{clause_of}
-use Rattle.ground_rules.specs.Origins.{put, unit_at, is_permitted_at, first_origins, count_at}
+use Rattle.ground_rules.specs.Origins.{put, origin_unit, is_permitted_at, first_origins, count_at}
 use Rattle.ground_rules.specs.Origins.{no_clause}
 use Rattle.ground_rules.proofs.ByOrigin.{first_origins_more, get_or_mapped}
 use Rattle.ground_rules.proofs.units.add_origins.Goals as goal
@@ -12,7 +12,7 @@ loop-number-preserved c =
     let clauses = map clause_of c.args.clauses.now in
     let loop = c.loop-number in
     c.in_ok-add_origin.ensures
-    ∙ ap (λ lists. fold (put (unit_at clauses)) lists
+    ∙ ap (λ lists. fold (put (origin_unit clauses)) lists
     (cond (is_permitted_at clauses (record {
       statement = c.args.statement;
       assignment =
@@ -36,5 +36,5 @@ returns c =
       c.loop-number-test.false,
       c.loop-number.auto.number-end,
     ) in
-    c.loop-number.invariant ∙ ap (λ n. fold (put (unit_at clauses)) c.args.origins.now
+    c.loop-number.invariant ∙ ap (λ n. fold (put (origin_unit clauses)) c.args.origins.now
     (first_origins clauses c.args.statement n)) all

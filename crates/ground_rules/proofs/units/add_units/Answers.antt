@@ -4,7 +4,7 @@ use Rattle.std.proofs.lemmas.List.{map-append}
 use Rattle.std.specs.List.{list_all}
 use Rattle.ground_types.specs.Sound.{argument_lists, arguments_of, domain_sizes}
 use Rattle.ground_rules.specs.Assignments.{instances}
-use Rattle.ground_rules.specs.Counted.{capped}
+use Rattle.ground_names.specs.Counted.{capped}
 use Rattle.ground_rules.specs.Clauses.{clause_of}
 use Rattle.ground_rules.specs.Grounded.{plain_unit, kind_by}
 use Rattle.ground_rules.specs.Origins.{is_origin, instance_at}

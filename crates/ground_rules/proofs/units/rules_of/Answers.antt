@@ -1,5 +1,6 @@
 use Rattle.std.proofs.Common.{map, ap, ◌∙◌}
-use Rattle.ground_rules.specs.Clauses.{clause_of, rule_by}
+use Rattle.ground_rules.specs.Clauses.{clause_of}
+use Rattle.ground_rules.specs.LentInstances.{rule_by}
 use Rattle.ground_rules.proofs.ByOrigin.{one_given, none_given}
 use Rattle.ground_rules.proofs.units.rules_of.Goals.{in-Some+in_ok-push, in_default}
 use Rattle.ground_rules.proofs.units.rules_of.Goals as goal

@@ -1,5 +1,6 @@
 use Rattle.std.proofs.Common.{◌≡◌, map, take, filter_map}
-use Rattle.ground_rules.specs.Clauses.{clause_of, rule_by}
+use Rattle.ground_rules.specs.Clauses.{clause_of}
+use Rattle.ground_rules.specs.LentInstances.{rule_by}
 use Rattle.ground_rules.specs.Origins.{instance_at}
 use Rattle.ground_rules.proofs.units.rules_of.Given as goal
 

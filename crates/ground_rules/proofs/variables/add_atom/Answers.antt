@@ -1,6 +1,6 @@
 use Rattle.std.proofs.Common.{filter_map}
 use Rattle.std.proofs.lemmas.List.Elements.{filter_map-append}
-use Rattle.domain_decl.specs.Mentions.{variable_in}
+use Rattle.decl_known.specs.Mentions.{variable_in}
 use Rattle.ground_rules.specs.Assignments.{with_word}
 use Rattle.ground_rules.proofs.Occurring.{one_more_taken}
 use Rattle.ground_rules.proofs.variables.add_atom.Goals as goal

@@ -1,5 +1,5 @@
 use Rattle.std.proofs.Common.{◌≡◌, map, filter_map, fold, take}
-use Rattle.domain_decl.specs.Mentions.{variable_in}
+use Rattle.decl_known.specs.Mentions.{variable_in}
 use Rattle.ground_rules.specs.Assignments.{with_word}
 use Rattle.ground_rules.proofs.variables.add_atom.Given as goal
 

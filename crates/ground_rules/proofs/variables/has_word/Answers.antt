@@ -2,7 +2,7 @@ use Rattle.std.proofs.Common.{◌∙◌, rules, tests}
 use Rattle.std.proofs.lemmas.Iterator.{YieldsList-from_slice}
 use Rattle.std.proofs.lemmas.Iterator.Search.{any_from_yields_List}
 use Rattle.std.specs.Str.{bytes_eq}
-use Rattle.domain_decl.proofs.LookUps.{has_of_items}
+use Rattle.word_table.proofs.LookUps.{has_of_items}
 use Rattle.ground_rules.proofs.variables.has_word.Goals as goal
 
 pub returns : goal.returns

@@ -1,5 +1,5 @@
 use Rattle.std.proofs.Common.{ap, sym, ◌∙◌, get_or, map}
-use Rattle.rule_read.specs.Forms.{plain_form}
+use Rattle.rule_forms.specs.Forms.{plain_form}
 use Rattle.ground_rules.specs.Assignments.{variables_of, domain_of}
 use Rattle.ground_rules.specs.Declarations.{clause_by}
 use Rattle.ground_rules.proofs.VariableDomains.{without_place, at_place}

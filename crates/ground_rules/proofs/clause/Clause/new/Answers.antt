@@ -2,7 +2,7 @@ use Rattle.std.proofs.Common.{ℕ, List, find, map, ap, ◌∙◌, Bor}
 use Rattle.std.specs.Str.{bytes_eq}
 use Rattle.rt_base.specs.declared.words.Word.{Word}
 use Rattle.ground_types.specs.Sound.{domain_sizes}
-use Rattle.domain_decl.specs.Gathered.{places_of}
+use Rattle.decl_known.specs.Gathered.{places_of}
 use Rattle.ground_rules.specs.Assignments.{number_at}
 use Rattle.ground_rules.proofs.VariableDomains.{domains_of_lent}
 use Rattle.ground_rules.proofs.clause.Clause.new.Goals as goal

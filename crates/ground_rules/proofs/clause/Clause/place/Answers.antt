@@ -3,7 +3,7 @@ use Rattle.std.proofs.lemmas.Iterator.{YieldsList-from_slice}
 use Rattle.std.proofs.lemmas.Iterator.Search.{position_from_yields_List}
 use Rattle.std.specs.Str.{bytes_eq}
 use Rattle.rt_base.specs.declared.words.Word.{Word}
-use Rattle.domain_decl.specs.Lists.{place_in}
+use Rattle.ground_types.specs.Words.{place_in}
 use Rattle.ground_rules.proofs.VariableDomains.{position_of_items}
 use Rattle.ground_rules.proofs.clause.Clause.place.Goals as goal
 

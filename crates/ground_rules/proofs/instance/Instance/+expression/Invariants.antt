@@ -1,6 +1,6 @@
 use Rattle.std.proofs.Common.{◌≡◌, map, take}
 use Rattle.ground_rules.specs.Atoms.{plain_expr}
-use Rattle.ground_rules.specs.Clauses.{instance_of}
+use Rattle.ground_rules.specs.LentInstances.{instance_of}
 use Rattle.ground_rules.proofs.ExpressionMembers.{ground_tree}
 use Rattle.ground_rules.proofs.instance.Instance.+expression.Given as goal
 

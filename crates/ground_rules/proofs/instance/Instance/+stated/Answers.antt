@@ -1,6 +1,6 @@
-use Rattle.std.proofs.Common.{map, sym, ap, ◌∙◌}
-use Rattle.rule_read.specs.Forms.{plain_tree}
-use Rattle.ground_rules.specs.Clauses.{instance_of}
+use Rattle.std.proofs.Common.{◌≡◌, IfOk, map, sym, ap, subst, ◌∙◌}
+use Rattle.rule_forms.specs.Forms.{plain_tree}
+use Rattle.ground_rules.specs.LentInstances.{instance_of}
 use Rattle.ground_rules.proofs.StatedExpressions.{stated_of, union_stated, intersect_stated}
 use Rattle.ground_rules.proofs.StatedExpressions.{complement_stated}
 use Rattle.ground_rules.proofs.instance.Instance.+stated.Goals as goal
@@ -22,15 +22,16 @@ stated_tree-returns-in_ok-stated_trees-in-Intersect t c =
     c.deref-in-Intersect.ensures.value)
     ∙ sym (ap (stated_of i) c.in-Intersect.is)
 
-pub stated_tree-returns-in_ok-stated_trees-in-Complement :
-    goal.stated_tree-returns-in_ok-stated_trees-in-Complement
-stated_tree-returns-in_ok-stated_trees-in-Complement t c =
+pub stated_tree-returns-in_ok-others-in-Complement :
+    goal.stated_tree-returns-in_ok-others-in-Complement
+stated_tree-returns-in_ok-others-in-Complement t c =
     let i = instance_of c.args.self.now in
-    let first = ap plain_tree c.in_ok-first-in-Complement.ensures.ok
-    ∙ c.in_ok-stated_tree-in-Complement.ensures ∙ ap (stated_of i) c.deref-in-Complement.ensures
-    in
-    let others = c.in_ok-stated_trees-in-Complement.ensures ∙ ap (map (stated_of i))
+    let first = c.in_ok-first-in-Complement.ensures ∙ ap (stated_of i)
+    c.deref-in-Complement.ensures in
+    let others = c.in_ok-others-in-Complement.ensures ∙ ap (map (stated_of i))
     c.deref-in-Complement-2.ensures.value in
-    complement_stated i c.in_ok-first-in-Complement.first c.in-Complement.first
-    c.in_ok-stated_trees-in-Complement.field-0 c.in-Complement.others first others
-    ∙ sym (ap (stated_of i) c.in-Complement.is)
+    let both = complement_stated i c.in_ok-first-in-Complement.first
+    c.in_ok-others-in-Complement.others c.in-Complement.first c.in-Complement.others first others
+    ∙ sym (ap (stated_of i) c.in-Complement.is) in
+    subst (λ e. IfOk c.complement_tree.result (λ tree. plain_tree tree ≡ e)) both
+    c.complement_tree.ensures

@@ -1,6 +1,6 @@
 use Rattle.std.proofs.Common.{◌≡◌, map, take}
-use Rattle.rule_read.specs.Forms.{plain_tree}
-use Rattle.ground_rules.specs.Clauses.{instance_of}
+use Rattle.rule_forms.specs.Forms.{plain_tree}
+use Rattle.ground_rules.specs.LentInstances.{instance_of}
 use Rattle.ground_rules.proofs.StatedExpressions.{stated_of}
 use Rattle.ground_rules.proofs.instance.Instance.+stated.Given as goal
 

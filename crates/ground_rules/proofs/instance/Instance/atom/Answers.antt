@@ -1,5 +1,5 @@
 use Rattle.std.proofs.Common.{option_copied, ap, sym, ◌∙◌}
-use Rattle.domain_decl.specs.Rules.{declaration}
+use Rattle.ground_types.specs.Words.{declaration}
 use Rattle.ground_rules.proofs.DeclaredSizes.{found_small}
 use Rattle.ground_rules.proofs.instance.Instance.atom.Goals as goal
 

@@ -1,7 +1,7 @@
 use Rattle.std.proofs.Common.{[], refl}
-use Rattle.domain_decl.proofs.Gathering.{one_more_kept}
+use Rattle.decl_known.proofs.Gathering.{one_more_kept}
 use Rattle.ground_rules.specs.Atoms.{ground_condition}
-use Rattle.ground_rules.specs.Clauses.{instance_of}
+use Rattle.ground_rules.specs.LentInstances.{instance_of}
 use Rattle.ground_rules.proofs.instance.Instance.conditions.Goals as goal
 
 pub loop-body-preserved : goal.loop-body-preserved

@@ -1,5 +1,5 @@
 use Rattle.std.proofs.Common.{◌+◌, option_map, ap, sym, ◌∙◌, arith}
-use Rattle.ground_rules.specs.Clauses.{instance_of}
+use Rattle.ground_rules.specs.LentInstances.{instance_of}
 use Rattle.ground_rules.specs.Atoms.{or_zero}
 use Rattle.ground_rules.proofs.ArgumentRanks.{no_capped, told_place}
 use Rattle.ground_rules.proofs.instance.Instance.number.Goals as goal

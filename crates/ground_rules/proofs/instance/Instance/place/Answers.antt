@@ -4,8 +4,8 @@ use Rattle.std.proofs.lemmas.List.{length_push}
 use Rattle.std.proofs.lemmas.Iterator.{YieldsList-from_slice, YieldsList-from_zip}
 use Rattle.std.proofs.lemmas.Iterator.Consumers.{YieldsList-turn, YieldsList-end}
 use Rattle.ground_types.specs.Sound.{entity_count}
-use Rattle.ground_rules.specs.Clauses.{instance_of}
-use Rattle.ground_rules.specs.Counted.{capped, ranked}
+use Rattle.ground_rules.specs.LentInstances.{instance_of}
+use Rattle.ground_names.specs.Counted.{capped, ranked}
 use Rattle.ground_rules.proofs.ArgumentRanks.{too_few, one_more_ranked, none_ranked, all_ranked}
 use Rattle.ground_rules.proofs.instance.Instance.place.Goals as goal
 

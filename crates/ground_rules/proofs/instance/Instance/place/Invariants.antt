@@ -1,6 +1,6 @@
 use Rattle.std.proofs.Common.{◌≡◌, length, fold, take, option_map, Some}
-use Rattle.ground_rules.specs.Clauses.{instance_of}
-use Rattle.ground_rules.specs.Counted.{capped, ranked}
+use Rattle.ground_rules.specs.LentInstances.{instance_of}
+use Rattle.ground_names.specs.Counted.{capped, ranked}
 use Rattle.ground_rules.proofs.ArgumentRanks.{the_pairs}
 use Rattle.ground_rules.proofs.instance.Instance.place.Given as goal
 

@@ -1,6 +1,6 @@
 use Rattle.std.proofs.Common.{[], refl}
-use Rattle.domain_decl.proofs.Gathering.{one_more_kept}
-use Rattle.ground_rules.specs.Clauses.{instance_of}
+use Rattle.decl_known.proofs.Gathering.{one_more_kept}
+use Rattle.ground_rules.specs.LentInstances.{instance_of}
 use Rattle.ground_rules.specs.Stated.{stated_condition}
 use Rattle.ground_rules.proofs.instance.Instance.stated_conditions.Goals as goal
 

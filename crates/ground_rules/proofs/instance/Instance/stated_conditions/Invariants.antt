@@ -1,5 +1,5 @@
 use Rattle.std.proofs.Common.{◌≡◌, filter_map, take}
-use Rattle.ground_rules.specs.Clauses.{instance_of}
+use Rattle.ground_rules.specs.LentInstances.{instance_of}
 use Rattle.ground_rules.specs.Stated.{stated_condition}
 use Rattle.ground_rules.proofs.instance.Instance.stated_conditions.Given as goal
 

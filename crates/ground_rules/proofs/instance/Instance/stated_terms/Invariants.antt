@@ -1,5 +1,5 @@
 use Rattle.std.proofs.Common.{◌≡◌, map, take}
-use Rattle.ground_rules.specs.Clauses.{instance_of}
+use Rattle.ground_rules.specs.LentInstances.{instance_of}
 use Rattle.ground_rules.specs.Stated.{stated_term}
 use Rattle.ground_rules.proofs.instance.Instance.stated_terms.Given as goal
 

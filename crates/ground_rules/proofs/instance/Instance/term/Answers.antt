@@ -1,7 +1,6 @@
 use Rattle.std.proofs.Common.{ap, sym, ◌∙◌, arith}
-use Rattle.domain_decl.specs.Lists.{place_in}
-use Rattle.domain_decl.specs.Rules.{entities_of}
-use Rattle.ground_rules.specs.Clauses.{instance_of}
+use Rattle.ground_types.specs.Words.{place_in, entities_of}
+use Rattle.ground_rules.specs.LentInstances.{instance_of}
 use Rattle.ground_rules.specs.Atoms.{or_zero, ground_term}
 use Rattle.ground_rules.proofs.DeclaredSizes.{few_entities, entity_small}
 use Rattle.ground_rules.proofs.instance.Instance.term.Goals as goal

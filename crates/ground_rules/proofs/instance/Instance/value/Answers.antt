@@ -1,6 +1,5 @@
-use Rattle.std.proofs.Common.{length, ap, sym, ◌∙◌, arith, option_copied}
-use Rattle.domain_decl.specs.Lists.{place_in}
-use Rattle.domain_decl.specs.Rules.{declaration}
+use Rattle.std.proofs.Common.{length, ap, ap₂, sym, ◌∙◌, arith, option_copied}
+use Rattle.ground_types.specs.Words.{place_in, declaration}
 use Rattle.ground_rules.proofs.DeclaredSizes.{value_small}
 use Rattle.ground_rules.proofs.instance.Instance.value.Goals as goal
 
@@ -13,6 +12,6 @@ overflow_cast-result c =
     c.known.ensures.declarations.sound_names
     (ap (λ names. declaration names word) (sym c.known.ensures.names) ∙ sym c.declaration.ensures
     ∙ ap option_copied c.in-Some.is)
-    (ap (λ words. place_in words c.args.fv.now.value) (sym c.as_slice.ensures)
+    (ap₂ place_in (sym c.as_slice.ensures) (sym (c.as_bytes.ensures.value ∙ c.as_str.ensures))
     ∙ sym c.place_in.ensures ∙ c.in-Some-place_in.is) in
     omega (arith, small)

@@ -1,10 +1,10 @@
 use Rattle.std.proofs.Common.{◌≡◌, ◌<◌, [], map, length, get_or, option_map, Some, subst, ap, ap₂}
 use Rattle.std.proofs.Common.{sym, ◌∙◌, arith}
 use Rattle.std.proofs.lemmas.Result.{IfOk-weaker}
-use Rattle.rule_read.specs.Forms.{plain_form}
-use Rattle.domain_decl.specs.Contents.{is_rule}
+use Rattle.rule_forms.specs.Forms.{plain_form, is_rule}
 use Rattle.ground_rules.specs.Assignments.{Instance}
-use Rattle.ground_rules.specs.Clauses.{clause_of, instance_of}
+use Rattle.ground_rules.specs.Clauses.{clause_of}
+use Rattle.ground_rules.specs.LentInstances.{instance_of}
 use Rattle.ground_rules.specs.declared.units.Origin.{Origin}
 use Rattle.ground_rules.specs.Origins.{instance_at}
 use Rattle.ground_rules.specs.Stated.{stated}

@@ -1,15 +1,14 @@
 use Rattle.std.proofs.Common.{◌≡◌, ◌≤◌, ap, ap₂, sym, ◌∙◌, map, subst, arith}
 use Rattle.std.specs.List.{list_all}
-use Rattle.rule_read.specs.Forms.{plain}
-use Rattle.domain_decl.specs.Accepted.{plain_checked}
-use Rattle.domain_decl.specs.Contents.{is_rule}
+use Rattle.rule_forms.specs.Forms.{plain, is_rule}
+use Rattle.decl_known.specs.Checked.{plain_checked}
 use Rattle.ground_rules.specs.Clauses.{clause_of}
-use Rattle.ground_rules.specs.Counted.{capped}
+use Rattle.ground_names.specs.Counted.{capped}
 use Rattle.ground_rules.specs.Grounded.{clauses_of, clauses, numbered_names}
 use Rattle.ground_rules.specs.Limits.{unit_count, rule_count, assignment_count}
-use Rattle.ground_rules.specs.Origins.{unit_at, origins_of, gathered}
+use Rattle.ground_rules.specs.Origins.{origin_unit, origins_of, gathered}
 use Rattle.ground_rules.proofs.ByOrigin.{are_few, are_origins}
-use Rattle.ground_rules.proofs.Caps.{capped_small}
+use Rattle.ground_names.proofs.Caps.{capped_small}
 use Rattle.ground_rules.proofs.NumberedNames.{declarations, units_few}
 use Rattle.ground_rules.proofs.ListedInstances.{few_names, few_assignments, few_rules}
 use Rattle.ground_rules.proofs.ListedInstances.{all_are_rules}
@@ -36,7 +35,7 @@ invariant_of-result c =
           ∙ all_are_rules checked c.requires.limits c.requires.checked;
       are_few = are_few found (subst (λ cs. assignment_count cs ≤ 1048576) (sym these) few);
       are_origins = (are_origins found c.unit_count-units.result c.in_ok-origins.origins
-          (c.in_ok-origins.ensures ∙ ap (λ cs. gathered (unit_at (map clause_of cs))
+          (c.in_ok-origins.ensures ∙ ap (λ cs. gathered (origin_unit (map clause_of cs))
           c.unit_count-units.result (origins_of (map clause_of cs))) c.as_slice-4.ensures.value)).1;
       rules_are =
           c.in_ok-rules.ensures ∙ ap (λ cs. capped (rule_count (map clause_of cs)))
@@ -58,7 +57,7 @@ returns c =
       clauses = these;
       units =
           (are_origins found c.unit_count-units.result c.in_ok-origins.origins
-          (c.in_ok-origins.ensures ∙ ap (λ cs. gathered (unit_at (map clause_of cs))
+          (c.in_ok-origins.ensures ∙ ap (λ cs. gathered (origin_unit (map clause_of cs))
           c.unit_count-units.result (origins_of (map clause_of cs)))
           c.as_slice-4.ensures.value)).0
           ∙ c.unit_count-units.ensures ∙ ap₂ (λ d n. capped (unit_count d n)) c.as_slice-2.ensures

@@ -1,7 +1,6 @@
 use Rattle.std.proofs.Common.{◌≡◌, Some, None, sym, ◌∙◌, ap}
-use Rattle.domain_decl.specs.Lists.{place_in}
-use Rattle.domain_decl.specs.Contents.{name_words}
-use Rattle.domain_decl.proofs.LookUps.{declaration_by_place, no_declaration_by_place}
+use Rattle.ground_types.specs.Words.{place_in, name_words}
+use Rattle.word_table.proofs.LookUps.{declaration_by_place, no_declaration_by_place}
 use Rattle.stream_read.proofs.names.Names.name.Goals as goal
 
 pub returns-in_err-place-clause-declared : goal.returns-in_err-place-clause-declared

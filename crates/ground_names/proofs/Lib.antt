@@ -1,0 +1,7 @@
+mod InputEvents
+pub mod Led
+pub mod Caps
+pub mod FirstFound
+pub mod Ordered
+pub mod Ranks
+pub mod SmallNumbers

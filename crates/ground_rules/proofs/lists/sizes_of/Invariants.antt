@@ -1,6 +1,0 @@
-use Rattle.std.proofs.Common.{◌≡◌, take}
-use Rattle.ground_types.specs.Sound.{domain_sizes}
-use Rattle.ground_rules.proofs.lists.sizes_of.Given as goal
-
-abbrev pub invariant-loop-number : goal.invariant-loop-number
-invariant-loop-number l = l.sizes.items ≡ domain_sizes l.domains (take l.number-index l.numbers)
