@@ -18,8 +18,8 @@ ghost use Rattle.delay_revise.specs.Working.{rows_over, evaluations_over, IsInWi
 
 use crate::gather::{points_by_value, points_of_rules};
 use event_store::EventStore;
-use ground_types::{Expr, Point, Program, Rule, Unit, UnitKind, Value};
-use layer_cache::{Cache, value_count};
+use ground_types::{Expr, Point, Program, Rule, Unit, UnitKind, Value, value_count};
+use layer_cache::Cache;
 use rt_base::{List, OutOfMemory, Steps};
 use simple_fluent::spans_of;
 use span_algebra::{Spans, UnitRows};

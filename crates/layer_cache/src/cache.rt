@@ -6,7 +6,7 @@ ghost use Rattle.layer_cache.specs.Cached.{empty_rows, all_empty, small_value, f
 ghost use Rattle.layer_cache.specs.Told.{fluent_has, fluent_row};
 ghost use Rattle.span_algebra.specs.Normal.{covers};
 
-use ground_types::{Point, Program, Unit, UnitId, UnitKind, Value};
+use ground_types::{Point, Program, Unit, UnitId, UnitKind, Value, value_count};
 use rt_base::{List, OutOfMemory};
 use span_algebra::{Points, Spans, UnitRows};
 use std::alloc::Global;
@@ -27,16 +27,6 @@ impl Model for Cache {
     ghost Value = { Cached };
 
     ghost view = { λ cache. record { rows = cache.rows.items; before = cache.before.items } };
-}
-
-/// How many values the name of a unit has; none where there is no such name. It takes no memory.
-pub fn value_count(program: &Program, unit: &Unit) -> usize
-    ensures { result ≡ unit_values program.now unit.now }
-{
-    match program.names.as_slice().get(unit.name as usize) {
-        Some(name) => name.values.as_slice().len(),
-        None => 0,
-    }
 }
 
 /// The row of a fluent's value; None for a value without a row, and for a derived event. It takes

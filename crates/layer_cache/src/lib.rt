@@ -7,7 +7,7 @@
 
 mod cache;
 
-pub use cache::{Cache, value_count, value_row};
+pub use cache::{Cache, value_row};
 
 #[cfg(test)]
 mod tests;

@@ -3,19 +3,20 @@ use Rattle.std.proofs.Common.{◌≡◌, ◌⊎◌, inl, inr, ℕ, List, map, Op
 use Rattle.std.proofs.Common.{ap, ◌∙◌}
 use Rattle.std.specs.Prelude.{IfSome}
 use Rattle.rt_base.specs.Outside.{Rose}
-use Rattle.rule_read.specs.Forms.{plain}
-use Rattle.domain_decl.specs.Accepted.{plain_checked}
+use Rattle.rule_forms.specs.Forms.{plain}
+use Rattle.decl_known.specs.Checked.{plain_checked}
 use Rattle.stream_read.specs.declared.script.Script.{Script}
 use Rattle.rtec_main.specs.declared.inputs.Description.{Description}
 use Rattle.rtec_main.specs.declared.inputs.DescriptionRefused.{DescriptionRefused}
 use Rattle.rtec_main.specs.declared.script.ScriptRefused.{ScriptRefused}
-use Rattle.rtec_main.specs.declared.status.Status.{Status}
-use Rattle.rtec_main.specs.declared.status.Status.TheVariants as status
+use Rattle.run_status.specs.declared.status.Status.{Status}
+use Rattle.run_status.specs.declared.status.Status.TheVariants as status
 use Rattle.ground_types.specs.declared.program.Program.{Program}
 use Rattle.rtec_main.specs.Described.{Described, IsDescribed, Describes, IsProgramOf}
-use Rattle.rtec_main.specs.Script.{commands_of, IsPlainScript}
+use Rattle.rtec_main.specs.Script.{commands_of, IsScriptOf}
+use Rattle.rtec_main.specs.Recognised.{IsPlainScript}
 use Rattle.rtec_main.specs.Reads.{IsDescriptionOf, IsSoundDescription, IsWhyNoDescription}
-use Rattle.rtec_main.specs.Reads.{description_status, IsWhyNoScript, IsScriptOf, script_status}
+use Rattle.rtec_main.specs.Reads.{description_status, IsWhyNoScript, script_status}
 use Rattle.rtec_main.specs.Run.{Concludes, World, Recognise, Ground, status_of_plain}
 use Rattle.rtec_main.specs.Run.{script_outcome, IsRecogniseOutcome, ground_outcome}
 use Rattle.rtec_main.proofs.Refusals.{description_outcome, short_outcome, script_outcome_is}

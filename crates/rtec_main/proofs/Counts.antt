@@ -1,10 +1,12 @@
 -- How many spans and points are published of a program: few enough for sums in 128 bits.
 use Rattle.std.proofs.Common.{◌≡◌, ℕ, zero, suc, ◌+◌, ◌-◌, ◌*◌, ◌≤◌, nat_le, Bool, true, false}
-use Rattle.std.proofs.Common.{cond, eqb, List, [], ◌∷◌, length, map, filter, slice_get, refl, sym}
-use Rattle.std.proofs.Common.{◌∙◌, ap, arith}
+use Rattle.std.proofs.Common.{cond, eqb, not, List, [], ◌∷◌, length, map, slice_get, refl, sym, ◌∙◌}
+use Rattle.std.proofs.Common.{ap, arith}
 use Rattle.std.specs.List.{list_all, sum_by, range_with_len, enumerate_from}
 use Rattle.std.proofs.lemmas.Bool.Decides.{nat_tests}
+use Rattle.std.proofs.lemmas.Nat.{mul-le}
 use Rattle.std.proofs.lemmas.List.FromFn.{length-range_with_len}
+use Rattle.std.proofs.lemmas.List.Filters.{length-filter_both}
 use Rattle.std.proofs.lemmas.List.Sums.{sum_by-cons}
 use Rattle.ground_types.specs.Windows.{left, right, IsSoundPlan}
 use Rattle.ground_types.specs.Truth.{Table, holds}
@@ -21,8 +23,8 @@ use Rattle.ground_types.specs.declared.program.Program.{Program}
 use Rattle.span_algebra.specs.declared.rows.UnitRows.{UnitRows}
 use Rattle.rtec_main.specs.Programs.{has_few_values, IsDeclared}
 use Rattle.delay_revise.specs.Published.{published}
-use Rattle.rtec_main.specs.Report.{span_count, point_count}
-use Rattle.rtec_main.proofs.Both.{both_left, both_right}
+use Rattle.report_text.specs.Report.{span_count, point_count}
+use Rattle.std.proofs.lemmas.Bool.{and_parts}
 
 one_or_two : (touches : Bool) (x y s : ℕ × ℕ) → length (cond touches (x ∷ []) (s ∷ y ∷ [])) ≤ 2
 one_or_two true x y s = omega arith
@@ -56,17 +58,14 @@ sum_at_most : (count : PublishedRows → ℕ) (rows : ℕ × ProgramUnit → Pub
 sum_at_most count rows test m each n [] all = omega arith
 sum_at_most count rows test m each n (unit ∷ rest) all =
     let tail : sum_by count (map rows (enumerate_from (n + 1) rest)) ≤ length rest * m =
-    sum_at_most count rows test m each (n + 1) rest (both_right (test unit) (list_all test rest)
-    all) in
-    let head : count (rows (n, unit)) ≤ m = each n unit (both_left (test unit) (list_all test rest)
-    all) in
+    sum_at_most count rows test m each (n + 1) rest (and_parts (test unit) (list_all test rest)
+    all).1 in
+    let head : count (rows (n, unit)) ≤ m = each n unit (and_parts (test unit) (list_all test rest)
+    all).0 in
     let parts : sum_by count (rows (n, unit) ∷ map rows (enumerate_from (n + 1) rest))
     ≡ count (rows (n, unit)) + sum_by count (map rows (enumerate_from (n + 1) rest)) =
     sum_by-cons count (rows (n, unit)) (map rows (enumerate_from (n + 1) rest)) in
     omega arith
-
-product_le : (a b m n : ℕ) → a ≤ m → b ≤ n → a * b ≤ m * n
-product_le a b m n am bn = grind arith
 
 -- so many rows of at most so many spans
 many_rows : (rows : ℕ → List (ℕ × ℕ)) (a count m : ℕ) → ((v : ℕ) → length (rows v) ≤ m) →
@@ -88,26 +87,16 @@ spans_of_kind table number count (Simple initially initiate terminate) w q few =
       arith,
       many_rows (λ v. row (holds table number v) w q) 0 count (q + 1 - w)
           (λ v. length_runs (holds table number v) w (q + 1 - w)),
-      product_le count (q + 1 - w) 64 (q + 1 - w) few (omega arith),
+      mul-le count (q + 1 - w) 64 (q + 1 - w) few (omega arith),
     )
 spans_of_kind table number count (Static exprs) w q few =
     omega (
       arith,
       many_rows (λ v. row (holds table number v) w q) 0 count (q + 1 - w)
           (λ v. length_runs (holds table number v) w (q + 1 - w)),
-      product_le count (q + 1 - w) 64 (q + 1 - w) few (omega arith),
+      mul-le count (q + 1 - w) 64 (q + 1 - w) few (omega arith),
     )
 spans_of_kind table number count (Derived rules) w q few = omega arith
-
-kept_few : (b : Bool) (x : ℕ) (xs : List ℕ) (n : ℕ) → length xs ≤ n → length (cond b (x ∷ xs) xs)
-    ≤ suc n
-kept_few true x xs n few = omega (arith, few)
-kept_few false x xs n few = omega (arith, few)
-
-length_filter : (test : ℕ → Bool) (xs : List ℕ) → length (filter test xs) ≤ length xs
-length_filter test [] = omega arith
-length_filter test (x ∷ xs) = kept_few (test x) x (filter test xs) (length xs)
-    (length_filter test xs)
 
 -- or one of points
 points_of_kind : (table : Table) (number count : ℕ) (kind : UnitKind) (w q : ℕ) →
@@ -117,7 +106,8 @@ points_of_kind table number count (Static exprs) w q = omega arith
 points_of_kind table number count (Derived rules) w q =
     omega (
       arith,
-      length_filter (table.derived number) (range_with_len (w + 1) (q - w)),
+      length-filter_both (table.derived number) (λ t. not (table.derived number t)) (λ t. refl)
+          (range_with_len (w + 1) (q - w)),
       length-range_with_len (w + 1) (q - w),
     )
 
@@ -125,11 +115,11 @@ few_values : (names : List Name) (n : ℕ) → list_all has_few_values names ≡
     → value_count (slice_get names n) ≤ 64
 few_values [] n all = omega arith
 few_values (name ∷ names) zero all =
-    let here : nat_le (length name.values) 64 ≡ true = both_left (has_few_values name)
-    (list_all has_few_values names) all in
+    let here : nat_le (length name.values) 64 ≡ true =
+    (and_parts (has_few_values name) (list_all has_few_values names) all).0 in
     grind (arith, nat_tests)
-few_values (name ∷ names) (suc n) all = few_values names n (both_right (has_few_values name)
-    (list_all has_few_values names) all)
+few_values (name ∷ names) (suc n) all = few_values names n (and_parts (has_few_values name)
+    (list_all has_few_values names) all).1
 
 all_pass : (units : List ProgramUnit) → list_all (λ unit. true) units ≡ true
 all_pass [] = refl
@@ -183,7 +173,7 @@ few_spans program history k rows declared are =
       same,
       spans_of_table program (query_table program history k) (left program.plan k)
           (right program.plan k) declared,
-      product_le (length program.units) (64 * (right program.plan k + 1 - left program.plan k))
+      mul-le (length program.units) (64 * (right program.plan k + 1 - left program.plan k))
           65536 (64 * 1000000000001) declared.sound.units_most (omega arith),
     )
 
@@ -202,6 +192,6 @@ few_points program history k rows declared are =
       same,
       points_of_table program (query_table program history k) (left program.plan k)
           (right program.plan k),
-      product_le (length program.units) (right program.plan k + 1 - left program.plan k) 65536
+      mul-le (length program.units) (right program.plan k + 1 - left program.plan k) 65536
           1000000000001 declared.sound.units_most (width program.plan k declared.sound.plan),
     )

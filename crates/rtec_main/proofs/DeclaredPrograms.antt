@@ -9,13 +9,13 @@ use Rattle.ground_types.specs.declared.program.Domain.{Domain}
 use Rattle.ground_types.specs.declared.program.Name.{Name}
 use Rattle.ground_types.specs.declared.program.NameKind.{NameKind}
 use Rattle.ground_types.specs.declared.program.NameKind.TheVariants as name_kind
-use Rattle.domain_decl.specs.Sound.{has_sound_values, is_sound_name}
-use Rattle.ground_rules.specs.Numbers.{numbered}
+use Rattle.decl_known.specs.Sound.{has_sound_values, is_sound_name}
+use Rattle.ground_names.specs.Numbers.{numbered}
 use Rattle.ground_rules.specs.Grounded.{PlainProgram}
 use Rattle.rtec_main.specs.Programs.{has_few_values, IsDeclared}
 use Rattle.rtec_main.specs.Reads.{IsSoundDescription}
 use Rattle.rtec_main.specs.declared.inputs.Description.{Description}
-use Rattle.rtec_main.proofs.Both.{both_left, both_right}
+use Rattle.std.proofs.lemmas.Bool.{and_parts}
 
 -- ---- a test of kinds and values passes whatever the first numbers
 
@@ -36,17 +36,17 @@ few_by : (kind : NameKind) (values : List (List ℕ)) → has_sound_values kind 
     → nat_le (length values) 64 ≡ true
 few_by name_kind.Input values h = grind (arith, nat_tests)
 few_by name_kind.Derived values h = grind (arith, nat_tests)
-few_by name_kind.Simple values h = both_right _ (nat_le (length values) 64) h
-few_by name_kind.Static values h = both_right _ (nat_le (length values) 64) h
+few_by name_kind.Simple values h = (and_parts _ (nat_le (length values) 64) h).1
+few_by name_kind.Static values h = (and_parts _ (nat_le (length values) 64) h).1
 
 few_all : (n : ℕ) (names : List Name) → list_all (is_sound_name n) names ≡ true
     → list_all has_few_values names ≡ true
 few_all n [] all = refl
 few_all n (name ∷ names) all =
     ap₂ ◌&&◌
-    (few_by name.kind name.values (both_right _ (has_sound_values name.kind name.values)
-    (both_left (is_sound_name n name) (list_all (is_sound_name n) names) all)))
-    (few_all n names (both_right (is_sound_name n name) (list_all (is_sound_name n) names) all))
+    (few_by name.kind name.values (and_parts _ (has_sound_values name.kind name.values)
+    (and_parts (is_sound_name n name) (list_all (is_sound_name n) names) all).0).1)
+    (few_all n names (and_parts (is_sound_name n name) (list_all (is_sound_name n) names) all).1)
 
 abbrev is_few : NameKind → List (List ℕ) → Bool
 is_few kind values = nat_le (length values) 64

@@ -1,10 +1,11 @@
 -- Why there are no layers, and no program.
 use Rattle.std.proofs.Common.{◌≡◌, ℕ, true, List, Result, Ok, Err, refl}
-use Rattle.rule_read.specs.Forms.{PlainStatement}
+use Rattle.rule_forms.specs.Forms.{PlainStatement}
 use Rattle.rule_read.specs.Whole.{reading, Statements}
-use Rattle.domain_decl.specs.Accepted.{PlainChecked, checking}
-use Rattle.strata_check.specs.Occurrences.{IsFirstCycle}
-use Rattle.strata_check.specs.declared.layering.LayerList.{LayerList}
+use Rattle.decl_known.specs.Checked.{PlainChecked}
+use Rattle.domain_decl.specs.Accepted.{checking}
+use Rattle.decl_known.specs.Occurrences.{IsFirstCycle}
+use Rattle.decl_known.specs.declared.layers.LayerList.{LayerList}
 use Rattle.strata_check.specs.declared.layering.StrataRefused.{StrataRefused}
 use Rattle.strata_check.specs.declared.layering.StrataRefused.TheVariants as strata
 use Rattle.ground_rules.specs.Answers.{Answers}

@@ -1,7 +1,7 @@
 -- What the text of a task, or the status in place of it, says of a run.
 use Rattle.std.proofs.Common.{◌≡◌, inl, inr, ℕ, List, Option, Some, Err, sym, subst}
-use Rattle.rtec_main.specs.declared.status.Status.{Status}
-use Rattle.rtec_main.specs.declared.status.Status.TheVariants as status
+use Rattle.run_status.specs.declared.status.Status.{Status}
+use Rattle.run_status.specs.declared.status.Status.TheVariants as status
 use Rattle.rtec_main.specs.Run.{World, Task, Recognise, Ground, WritesNothing, Refuses, Means}
 use Rattle.rtec_main.specs.Run.{MeansOfWords, Concludes, Completes, task_of}
 use Rattle.rtec_main.specs.Tasks.{Gives}

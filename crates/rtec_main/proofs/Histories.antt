@@ -1,64 +1,24 @@
--- The history of commands: it is legal, and that of a plain script is plain.
+-- The history of a plain script is plain and legal.
 use Rattle.std.proofs.Common.{◌≡◌, ℕ, ◌+◌, ◌<◌, ◌≤◌, Bool, true, cond, ◌&&◌, List, [], ◌∷◌, ◌++◌}
-use Rattle.std.proofs.Common.{length, take, refl, sym, ◌∙◌, ap, ap₂, subst, arith, append_assoc}
-use Rattle.std.proofs.Common.{append-nil, length-append}
+use Rattle.std.proofs.Common.{length, take, refl, ◌∙◌, ap, ap₂, arith, length-append}
 use Rattle.std.specs.List.{list_all}
 use Rattle.std.proofs.lemmas.List.{take-append-le}
 use Rattle.std.proofs.lemmas.List.Folds.{list_all-append}
 use Rattle.std.proofs.lemmas.List.Elements.{All-take}
 use Rattle.std.proofs.lemmas.List.Sums.{sum_by-append, sum_by-cons, fold-append}
 use Rattle.std.proofs.lemmas.List.Sums.{AllPass-from_list_all, list_all-from_AllPass}
-use Rattle.ground_types.specs.History.{seals, is_seal, reply_to, FollowsLegally, AreLegalAfter}
-use Rattle.ground_types.specs.History.{IsLegal}
+use Rattle.ground_types.specs.History.{seals, is_seal, reply_to, IsLegal}
 use Rattle.ground_types.specs.declared.plan.Plan.{Plan}
 use Rattle.ground_types.specs.declared.entries.Act.TheVariants.{Add, Revoke}
 use Rattle.ground_types.specs.declared.entries.Entry.{Entry}
 use Rattle.ground_types.specs.declared.entries.Entry.TheVariants.{Fed, Seal}
 use Rattle.ground_types.specs.declared.entries.Command.{Command}
 use Rattle.ground_types.specs.declared.entries.Command.TheVariants as command
-use Rattle.rtec_main.proofs.Both.{both_left, both_right}
-use Rattle.rtec_main.specs.Script.{is_add, IsPlainScript}
-use Rattle.rtec_main.specs.Recognised.{is_fed_add, IsPlainHistory}
-use Rattle.rtec_main.specs.Report.{entries_of, history_after, history_of}
-
--- a legal history goes on legally with an entry that follows it legally
-legal_push : (plan : Plan) (before xs : List Entry) (x : Entry) → AreLegalAfter plan before xs
-    → FollowsLegally plan (before ++ xs) x →
-    AreLegalAfter plan before (xs ++ x ∷ [])
-legal_push plan before [] x legal last = (
-  subst (λ (h : List Entry). FollowsLegally plan h x)
-      (append-nil before) last,
-  tt,
-)
-legal_push plan before (y ∷ ys) x legal last = (
-  legal.0,
-  legal_push plan (before ++ y ∷ []) ys x legal.1
-      (subst (λ (h : List Entry). FollowsLegally plan h x) (sym (append_assoc before (y ∷ []) ys))
-      last),
-)
-
--- so it does with the entry of a command
-legal_more : (plan : Plan) (history : List Entry) (c : Command) → AreLegalAfter plan [] history →
-    AreLegalAfter plan [] (history ++ entries_of plan history c)
-legal_more plan history (command.Feed feeder act event at) legal =
-    legal_push plan [] history (Fed feeder act event at (reply_to plan history act event at)) legal
-    refl
-legal_more plan history command.Seal legal = legal_push plan [] history (Seal (seals history))
-    legal refl
-legal_more plan history (command.Ask query) legal =
-    subst (λ (h : List Entry). AreLegalAfter plan [] h) (sym (append-nil history)) legal
-legal_more plan history (command.Wait count) legal =
-    subst (λ (h : List Entry). AreLegalAfter plan [] h) (sym (append-nil history)) legal
-legal_more plan history (command.After feeder count) legal =
-    subst (λ (h : List Entry). AreLegalAfter plan [] h) (sym (append-nil history)) legal
-
--- the history of commands has right replies and seal numbers
-pub legal_all : (plan : Plan) (history : List Entry) (commands : List Command)
-    → AreLegalAfter plan [] history →
-    AreLegalAfter plan [] (history_after plan history commands)
-legal_all plan history [] legal = legal
-legal_all plan history (c ∷ rest) legal = legal_all plan (history ++ entries_of plan history c)
-    rest (legal_more plan history c legal)
+use Rattle.std.proofs.lemmas.Bool.{and_parts}
+use Rattle.report_text.proofs.Legal.{made_is_legal}
+use Rattle.rtec_main.specs.Script.{is_add}
+use Rattle.rtec_main.specs.Recognised.{is_fed_add, IsPlainHistory, IsPlainScript}
+use Rattle.report_text.specs.Report.{entries_of, history_after, history_of}
 
 -- entries that are adds
 abbrev AreFed : List Entry → Type 0
@@ -111,8 +71,8 @@ no_seals (x ∷ xs) fed =
     omega (
       arith,
       sum_by-cons seal_count x xs,
-      no_seal x (both_left (is_fed_add x) (list_all is_fed_add xs) fed),
-      no_seals xs (both_right (is_fed_add x) (list_all is_fed_add xs) fed),
+      no_seal x (and_parts (is_fed_add x) (list_all is_fed_add xs) fed).0,
+      no_seals xs (and_parts (is_fed_add x) (list_all is_fed_add xs) fed).1,
     )
 
 fed_adds : (plan : Plan) (adds : List Command) → list_all is_add adds ≡ true
@@ -173,7 +133,8 @@ one_seal history plain =
 -- the history of a plain script is legal where there is a query
 pub plain_legal : (plan : Plan) (commands : List Command) → IsPlainScript commands
     → 1 ≤ plan.queries → IsLegal plan (history_of plan commands)
-plain_legal plan commands plain some = record {
-  entries = legal_all plan [] commands tt;
-  few_seals = omega (arith, one_seal (history_of plan commands) (plain_all plan commands plain));
-}
+plain_legal plan commands plain some =
+    made_is_legal plan commands (omega (
+      arith,
+      one_seal (history_of plan commands) (plain_all plan commands plain),
+    ))

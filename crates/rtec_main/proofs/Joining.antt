@@ -13,13 +13,14 @@ use Rattle.ground_types.specs.declared.entries.Command.{Command}
 use Rattle.ground_types.specs.declared.entries.Command.TheVariants as command
 use Rattle.ground_types.specs.declared.program.Program.{Program}
 use Rattle.rtec_main.specs.Recognised.{is_fed_add, IsPlainHistory}
-use Rattle.rtec_main.specs.Report.{entries_of, history_after, history_of, entry_lines, block_lines}
-use Rattle.rtec_main.specs.Report.{command_lines, end_lines, text_of_lines, report_text}
-use Rattle.rtec_main.specs.Report.{over_queries, entries_line, span_count, point_count}
-use Rattle.rtec_main.specs.Printed.{feed_lines, block_of, totals_line, end_of}
-use Rattle.rtec_main.proofs.Both.{both_right}
+use Rattle.report_text.specs.Report.{entries_of, history_after, history_of, entry_lines}
+use Rattle.report_text.specs.Report.{block_lines, command_lines, end_lines, report_text}
+use Rattle.report_text.specs.Report.{over_queries, entries_line, span_count, point_count}
+use Rattle.text_pieces.specs.Lines.{text_of_lines}
+use Rattle.report_text.specs.Printed.{feed_lines, block_of, totals_line, end_of}
+use Rattle.std.proofs.lemmas.Bool.{and_parts}
 use Rattle.rtec_main.proofs.Histories.{one_seal}
-use Rattle.rtec_main.proofs.LineTexts.{text_append}
+use Rattle.text_pieces.proofs.LineTexts.{text_append}
 
 -- the entries that commands make after a history
 abbrev made_by : Plan → List Entry → List Command → List Entry
@@ -86,8 +87,8 @@ lines_of_adds : (program : Program) (before adds : List Entry) → list_all is_f
 lines_of_adds program before [] fed = append-nil (block_lines program (before ++ Seal 0 ∷ []) 0)
 lines_of_adds program before (Fed feeder act event at reply ∷ rest) fed =
     let entry : Entry = Fed feeder act event at reply in
-    let later : list_all is_fed_add rest ≡ true = both_right (is_fed_add entry)
-    (list_all is_fed_add rest) fed in
+    let later : list_all is_fed_add rest ≡ true =
+    (and_parts (is_fed_add entry) (list_all is_fed_add rest) fed).1 in
     ap (λ (l : List (List ℕ)). entry_lines program before entry ++ l)
     (lines_of_adds program (before ++ entry ∷ []) rest later
     ∙ ap (λ (h : List Entry). flat_map (feed_lines program) rest ++ block_lines program h 0)

@@ -5,7 +5,7 @@ use Rattle.std.specs.List.{list_all}
 use Rattle.std.proofs.lemmas.Option.{same_Some}
 use Rattle.rt_base.specs.declared.limit.Limit.{Limit}
 use Rattle.ground_types.proofs.Members.{and_left, and_right}
-use Rattle.domain_decl.specs.Accepted.{PlainChecked}
+use Rattle.decl_known.specs.Checked.{PlainChecked}
 use Rattle.ground_rules.specs.Grounded.{clauses}
 use Rattle.ground_rules.specs.Limits.{name_tests, clause_tests, row_tests, first_exceeded, exceeded}
 use Rattle.rtec_main.specs.Reads.{is_described_limit}

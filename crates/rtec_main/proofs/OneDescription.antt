@@ -5,17 +5,18 @@ use Rattle.std.proofs.lemmas.Bool.{cases_lt}
 use Rattle.std.proofs.lemmas.Option.{same_Some, slice_get_within}
 use Rattle.rt_base.specs.declared.limit.Limit.{Limit}
 use Rattle.ground_types.specs.declared.program.Name.{Name}
-use Rattle.rule_read.specs.Forms.{PlainStatement}
+use Rattle.rule_forms.specs.Forms.{PlainStatement}
 use Rattle.rule_read.specs.Whole.{Reading, reading, TooLong as LongText, BadByte, BadStatement}
 use Rattle.rule_read.specs.Whole.{Statements}
-use Rattle.domain_decl.specs.Accepted.{PlainChecked, checking}
-use Rattle.domain_decl.specs.declared.checked.DeclRefused.{DeclRefused}
-use Rattle.domain_decl.specs.declared.checked.DeclRefused.TheVariants as refused
-use Rattle.strata_check.specs.Occurrences.{NoneBefore, IsFirstCycle}
+use Rattle.decl_known.specs.Checked.{PlainChecked}
+use Rattle.domain_decl.specs.Accepted.{checking}
+use Rattle.decl_known.specs.declared.checked.DeclRefused.{DeclRefused}
+use Rattle.decl_known.specs.declared.checked.DeclRefused.TheVariants as refused
+use Rattle.decl_known.specs.Occurrences.{NoneBefore, IsFirstCycle}
 use Rattle.strata_check.proofs.OneLayering.{layerings_equal}
 use Rattle.ground_rules.specs.Limits.{exceeded}
-use Rattle.rtec_main.specs.declared.status.DescFault.{DescFault}
-use Rattle.rtec_main.specs.declared.status.DescFault.TheVariants as fault
+use Rattle.run_status.specs.declared.status.DescFault.{DescFault}
+use Rattle.run_status.specs.declared.status.DescFault.TheVariants as fault
 use Rattle.rtec_main.specs.Described.{Described, TooLong, Faulty, Exceeds, Describes, IsRefused}
 use Rattle.rtec_main.specs.Described.{HasLayers, IsFaulty, IsDescribed}
 

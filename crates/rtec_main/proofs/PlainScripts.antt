@@ -9,7 +9,8 @@ use Rattle.std.proofs.lemmas.List.Folds.{list_all-map}
 use Rattle.ground_types.specs.declared.entries.Command.{Command}
 use Rattle.ground_types.specs.declared.entries.Command.TheVariants.{Feed, Seal, Ask, Wait, After}
 use Rattle.stream_read.specs.declared.script.Placed.{Placed}
-use Rattle.rtec_main.specs.Script.{commands_of, is_add, is_seal, is_plain, IsPlainScript}
+use Rattle.rtec_main.specs.Script.{commands_of, is_add, is_seal, is_plain}
+use Rattle.rtec_main.specs.Recognised.{IsPlainScript}
 
 -- ---- the last command and those before it
 

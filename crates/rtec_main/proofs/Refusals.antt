@@ -2,6 +2,7 @@
 use Rattle.std.proofs.Common.{◌≡◌, ◌⊎◌, inl, inr, ℕ, ◌<◌, ◌≤◌, ltb, true, false, List, length}
 use Rattle.std.proofs.Common.{Option, Some, Result, Ok, refl, sym, ap, ◌∙◌, subst, arith}
 use Rattle.std.proofs.Common.{if◌then◌else◌}
+use Rattle.std.specs.Prelude.{IfSome}
 use Rattle.std.proofs.lemmas.Bool.Decides.{nat_tests}
 use Rattle.rt_base.specs.Outside.{Rose}
 use Rattle.rt_base.specs.declared.limit.Limit.{Limit}
@@ -13,11 +14,11 @@ use Rattle.rtec_main.specs.declared.inputs.DescriptionRefused.{DescriptionRefuse
 use Rattle.rtec_main.specs.declared.inputs.DescriptionRefused.TheVariants as description
 use Rattle.rtec_main.specs.declared.script.ScriptRefused.{ScriptRefused}
 use Rattle.rtec_main.specs.declared.script.ScriptRefused.TheVariants as script
-use Rattle.rtec_main.specs.declared.status.DescFault.{DescFault}
-use Rattle.rtec_main.specs.declared.status.Status.{Status}
-use Rattle.rtec_main.specs.declared.status.Status.TheVariants as status
+use Rattle.run_status.specs.declared.status.DescFault.{DescFault}
+use Rattle.run_status.specs.declared.status.Status.{Status}
+use Rattle.run_status.specs.declared.status.Status.TheVariants as status
 use Rattle.rtec_main.specs.Described.{Described, IsDescribed, TooLong, Faulty, Exceeds}
-use Rattle.rtec_main.specs.Script.{longest, merged}
+use Rattle.rtec_main.specs.Script.{longest, merged, IsScriptOf}
 use Rattle.rtec_main.specs.Reads.{IsWhyNoDescription, description_status, IsWhyNoScript}
 use Rattle.rtec_main.specs.Reads.{script_status}
 use Rattle.rtec_main.specs.Run.{World, Runs, RefusesScript as SaysScript, status_of_plain}
@@ -45,13 +46,23 @@ rose_since : (before mid now : ℕ) → before ≤ mid → Rose mid now → Rose
 rose_since before mid now later rose = omega arith
 
 -- a script that is refused as inputs stand later is refused as they stood before
-pub script_refused_before : (told bytes : Option (List ℕ)) (before mid now : ℕ) (program : Program)
-    (refused : ScriptRefused) → bytes ≡ told → before ≤ mid
-    → IsWhyNoScript bytes mid now program refused → IsWhyNoScript told before now program refused
-script_refused_before told bytes before mid now program script.Fault same later why =
+pub script_refused_before : (told bytes : Option (List ℕ)) (before mid now : ℕ)
+    (taken program : Program) (refused : ScriptRefused) → taken ≡ program → bytes ≡ told
+    → before ≤ mid → IsWhyNoScript bytes mid now taken refused
+    → IsWhyNoScript told before now program refused
+script_refused_before told bytes before mid now taken program script.Fault is same later why =
     rose_since before mid now later why
-script_refused_before told bytes before mid now program refused same later why =
-    subst (λ b. IsWhyNoScript b mid now program refused) same why
+script_refused_before told bytes before mid now taken program refused is same later why =
+    subst (λ p. IsWhyNoScript told before now p refused) is
+    (subst (λ b. IsWhyNoScript b mid now taken refused) same why)
+
+-- so it is of a script that runs
+pub script_before : (told bytes : Option (List ℕ)) (taken program : Program) (given : Script)
+    → taken ≡ program → bytes ≡ told → IfSome bytes (λ text. IsScriptOf taken text given)
+    → IfSome told (λ text. IsScriptOf program text given)
+script_before told bytes taken program given is same scripted =
+    subst (λ p. IfSome told (λ text. IsScriptOf p text given)) is
+    (subst (λ b. IfSome b (λ text. IsScriptOf taken text given)) same scripted)
 
 -- ---- and it is what the bytes come to
 

@@ -2,17 +2,17 @@
 use Rattle.std.proofs.Common.{◌≡◌, inl, inr, ℕ, List, map, Option, Err}
 use Rattle.std.specs.Prelude.{IfSome}
 use Rattle.std.proofs.lemmas.Option.{IfSome_then}
-use Rattle.rule_read.specs.Forms.{plain}
-use Rattle.domain_decl.specs.Accepted.{plain_checked}
+use Rattle.rule_forms.specs.Forms.{plain}
+use Rattle.decl_known.specs.Checked.{plain_checked}
 use Rattle.stream_read.specs.declared.script.Script.{Script}
 use Rattle.rtec_main.specs.declared.inputs.Description.{Description}
 use Rattle.rtec_main.specs.declared.script.ScriptRefused.{ScriptRefused}
 use Rattle.rtec_main.specs.Described.{IsDescribed, Describes}
-use Rattle.rtec_main.specs.Script.{commands_of, IsPlainScript}
-use Rattle.rtec_main.specs.Report.{report_text}
-use Rattle.rtec_main.specs.GroundText.{ground_text}
-use Rattle.rtec_main.specs.Reads.{IsDescriptionOf, IsSoundDescription, IsWhyNoScript, IsScriptOf}
-use Rattle.rtec_main.specs.Reads.{script_status}
+use Rattle.rtec_main.specs.Script.{commands_of, IsScriptOf}
+use Rattle.rtec_main.specs.Recognised.{IsPlainScript}
+use Rattle.report_text.specs.Report.{report_text}
+use Rattle.ground_text.specs.GroundText.{ground_text}
+use Rattle.rtec_main.specs.Reads.{IsDescriptionOf, IsSoundDescription, IsWhyNoScript, script_status}
 use Rattle.rtec_main.specs.Run.{World, Recognise, Runs, IsReport, IsGrounding}
 use Rattle.rtec_main.specs.Tasks.{Gives}
 use Rattle.rtec_main.proofs.Refusals.{script_says}
@@ -59,7 +59,7 @@ report_given old name script found sound is given scripted parts text e = record
   program = found.program;
   script = given;
   runs = runs_by old name found sound is;
-  is_script = IfSome_then (old.bytes script) scripted (λ text of. (of.short, of.is));
+  is_script = scripted;
   is_plain = parts_plain (commands_of given.commands) parts;
   is = e;
 }

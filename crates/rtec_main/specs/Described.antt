@@ -1,18 +1,19 @@
--- What a text is as a description.
+-- Public contracts speak by this: what a text is as a description.
 use Rattle.std.specs.Prelude.{◌≡◌, ℕ, List, length, Some, None, Ok, Err}
 use Rattle.rt_base.specs.declared.limit.Limit.{Limit}
 use Rattle.ground_types.specs.declared.program.Program.{Program}
-use Rattle.rule_read.specs.Forms.{PlainStatement}
+use Rattle.rule_forms.specs.Forms.{PlainStatement}
 use Rattle.rule_read.specs.Whole.{reading, TooLong as LongText, BadByte, BadStatement, Statements}
-use Rattle.domain_decl.specs.Accepted.{PlainChecked, checking}
-use Rattle.domain_decl.specs.declared.checked.DeclRefused.{DeclRefused}
-use Rattle.domain_decl.specs.declared.checked.DeclRefused.TheVariants as refused
-use Rattle.strata_check.specs.Layers.{IsLayering}
-use Rattle.strata_check.specs.Occurrences.{NoneBefore, IsFirstCycle}
+use Rattle.decl_known.specs.Checked.{PlainChecked}
+use Rattle.domain_decl.specs.Accepted.{checking}
+use Rattle.decl_known.specs.declared.checked.DeclRefused.{DeclRefused}
+use Rattle.decl_known.specs.declared.checked.DeclRefused.TheVariants as refused
+use Rattle.decl_known.specs.Layers.{IsLayering}
+use Rattle.decl_known.specs.Occurrences.{NoneBefore, IsFirstCycle}
 use Rattle.ground_rules.specs.Grounded.{plain_program, grounded}
 use Rattle.ground_rules.specs.Limits.{exceeded}
-use Rattle.rtec_main.specs.declared.status.DescFault.{DescFault}
-use Rattle.rtec_main.specs.declared.status.DescFault.TheVariants as fault
+use Rattle.run_status.specs.declared.status.DescFault.{DescFault}
+use Rattle.run_status.specs.declared.status.DescFault.TheVariants as fault
 
 -- It is longer than one may be, or faulty, or it exceeds a limit, or it has statements, which
 -- declare something, and layers of the names that are declared.

@@ -1,4 +1,5 @@
--- The first run, from its two texts to its report: each equation holds by computation alone.
+-- No contract speaks by this: the first run, from its two texts to its report. Each equation holds
+-- by computation alone.
 use Rattle.std.specs.Fmt.{digits}
 use Rattle.std.specs.Prelude.{◌≡◌, ℕ, true, false, List, [], ◌∷◌, codes, refl}
 use Rattle.ground_types.specs.Examples.{lamp}
@@ -6,7 +7,7 @@ use Rattle.ground_types.specs.declared.entries.Act.TheVariants.{Add}
 use Rattle.ground_types.specs.declared.entries.Command.{Command}
 use Rattle.ground_types.specs.declared.entries.Command.TheVariants.{Feed, Seal}
 use Rattle.rtec_main.specs.Described.{IsFaulty}
-use Rattle.rule_read.specs.Forms.{Input}
+use Rattle.rule_forms.specs.Forms.{Input}
 use Rattle.rule_read.specs.Bytes.{class_of}
 use Rattle.rule_read.specs.Tokens.{cut}
 use Rattle.rule_read.specs.Sentences.{sentences, first_bad}
@@ -15,9 +16,10 @@ use Rattle.rule_read.specs.Reading.{bind, mapped, enclosed_at, row_at, args_at, 
 use Rattle.rule_read.specs.Reading.{atom_at, fv_at, event_at, condition_at, unequal_at, body_at}
 use Rattle.rule_read.specs.Reading.{number_at, valued_at, conditions_at, rule_at, form_at, form_of}
 use Rattle.rule_read.specs.Whole.{forms_of}
-use Rattle.rtec_main.specs.declared.status.DescFault.TheVariants as fault
+use Rattle.run_status.specs.declared.status.DescFault.TheVariants as fault
 use Rattle.rtec_main.specs.Script.{is_plain}
-use Rattle.rtec_main.specs.Report.{text_of_lines, report_text}
+use Rattle.text_pieces.specs.Lines.{text_of_lines}
+use Rattle.report_text.specs.Report.{report_text}
 
 abbrev lamp_text : List ℕ
 lamp_text =

@@ -1,13 +1,8 @@
 pub mod Described
 pub mod Programs
-pub mod Atoms
 pub mod Script
-pub mod Report
-pub mod Printed
 pub mod Recognised
-pub mod GroundText
 pub mod Run
 pub mod Tasks
 pub mod Reads
 pub mod Examples
-pub mod GroundExamples

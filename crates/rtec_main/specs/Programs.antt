@@ -1,4 +1,4 @@
--- What is known of the program of a description.
+-- For private functions alone: what is known of the program of a description.
 use Rattle.std.specs.Prelude.{◌≡◌, ◌≤◌, nat_le, Bool, true, length}
 use Rattle.std.specs.List.{list_all}
 use Rattle.ground_types.specs.Sound.{IsSound}

@@ -1,5 +1,5 @@
--- What reading a whole input answers, and what is known of a description and a script that were
--- read.
+-- For private functions alone: what reading a whole input answers, and what is known of a
+-- description and a script that were read.
 use Rattle.std.specs.Prelude.{◌≡◌, ◌<◌, ◌≤◌, ℕ, Bool, true, false, List, ◌++◌, length, map, take}
 use Rattle.std.specs.Prelude.{drop, IfSome, Option, None, Result, Ok, Err, Vec}
 use Rattle.std.specs.declared.alloc.Global.{Global}
@@ -8,14 +8,14 @@ use Rattle.rt_base.specs.declared.limit.Limit.{Limit}
 use Rattle.rt_base.specs.declared.limit.Limit.TheVariants as limit
 use Rattle.ground_types.specs.Sound.{IsSound}
 use Rattle.ground_types.specs.declared.program.Program.{Program}
-use Rattle.rule_read.specs.Forms.{plain}
-use Rattle.rule_read.specs.Sound.{IsSound as IsSoundSyntax}
-use Rattle.rule_read.specs.declared.syntax.ReadRefused.{ReadRefused}
-use Rattle.rule_read.specs.declared.syntax.ReadRefused.TheVariants as read
-use Rattle.domain_decl.specs.Accepted.{plain_checked}
-use Rattle.domain_decl.specs.Sound.{IsSound as IsSoundChecked}
-use Rattle.domain_decl.specs.declared.checked.DeclRefused.{DeclRefused}
-use Rattle.domain_decl.specs.declared.checked.DeclRefused.TheVariants as declared
+use Rattle.rule_forms.specs.Forms.{plain}
+use Rattle.rule_forms.specs.Sound.{IsSound as IsSoundSyntax}
+use Rattle.rule_read.specs.declared.refused.ReadRefused.{ReadRefused}
+use Rattle.rule_read.specs.declared.refused.ReadRefused.TheVariants as read
+use Rattle.decl_known.specs.Checked.{plain_checked}
+use Rattle.decl_known.specs.Sound.{IsSound as IsSoundChecked}
+use Rattle.decl_known.specs.declared.checked.DeclRefused.{DeclRefused}
+use Rattle.decl_known.specs.declared.checked.DeclRefused.TheVariants as declared
 use Rattle.strata_check.specs.declared.layering.StrataRefused.{StrataRefused}
 use Rattle.strata_check.specs.declared.layering.StrataRefused.TheVariants as strata
 use Rattle.ground_rules.specs.Limits.{exceeded}
@@ -34,10 +34,10 @@ use Rattle.rtec_main.specs.declared.inputs.DescriptionRefused.{DescriptionRefuse
 use Rattle.rtec_main.specs.declared.inputs.DescriptionRefused.TheVariants as description
 use Rattle.rtec_main.specs.declared.script.ScriptRefused.{ScriptRefused}
 use Rattle.rtec_main.specs.declared.script.ScriptRefused.TheVariants as script
-use Rattle.rtec_main.specs.declared.status.DescFault.TheVariants as fault
-use Rattle.rtec_main.specs.declared.status.ScriptFault.TheVariants as script_fault
-use Rattle.rtec_main.specs.declared.status.Status.{Status}
-use Rattle.rtec_main.specs.declared.status.Status.TheVariants as status
+use Rattle.run_status.specs.declared.status.DescFault.TheVariants as fault
+use Rattle.run_status.specs.declared.status.ScriptFault.TheVariants as script_fault
+use Rattle.run_status.specs.declared.status.Status.{Status}
+use Rattle.run_status.specs.declared.status.Status.TheVariants as status
 
 -- all bytes, or why not: the count of faults rose, there are more bytes than the limit, or memory
 -- ran out
@@ -144,11 +144,6 @@ ungrounded (grounding.TooLarge which) = description.Exceeds which
 ungrounded grounding.OutOfMemory = description.OutOfMemory
 
 -- ---- a script
-
--- the bytes are a script that runs
-pub record IsScriptOf (program : Program) (text : List ℕ) (found : Script) : Type 0 where
-  pub short : length text ≤ longest
-  pub is : merged program text ≡ Ok found
 
 -- why bytes are not a script that runs
 abbrev pub IsScriptRefused : Program → List ℕ → ScriptRefused → Type 0

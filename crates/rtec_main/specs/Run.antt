@@ -1,4 +1,4 @@
--- What a run ends with: one case for each status.
+-- Public contracts speak by this: what a run ends with, one case for each status.
 use Rattle.std.specs.Prelude.{◌≡◌, ◌⊎◌, ◌≤◌, ◌<◌, ℕ, zero, suc, not, nat_lt, Bool, true, false}
 use Rattle.std.specs.Prelude.{◌&&◌, ◌==◌, if◌then◌else◌, List, [], ◌∷◌, length, take, codes, IfSome}
 use Rattle.std.specs.Prelude.{Option, Some, None, Result, Ok, Err}
@@ -6,19 +6,19 @@ use Rattle.std.specs.Str.{bytes_eq}
 use Rattle.rt_base.specs.Outside.{Rose, with_bytes}
 use Rattle.rt_base.specs.declared.limit.Limit.TheVariants as limit
 use Rattle.ground_types.specs.declared.program.Program.{Program}
-use Rattle.rule_read.specs.Forms.{PlainStatement}
-use Rattle.domain_decl.specs.Accepted.{PlainChecked}
+use Rattle.rule_forms.specs.Forms.{PlainStatement}
+use Rattle.decl_known.specs.Checked.{PlainChecked}
 use Rattle.stream_read.specs.declared.script.Script.{Script}
 use Rattle.stream_read.specs.declared.script.StreamRefused.{StreamRefused}
 use Rattle.stream_read.specs.declared.script.StreamRefused.TheVariants as refused
 use Rattle.rtec_main.specs.Described.{Described, IsDescribed, TooLong, Faulty, Exceeds, Describes}
 use Rattle.rtec_main.specs.Described.{IsProgramOf}
-use Rattle.rtec_main.specs.Script.{longest, merged, commands_of, is_plain}
-use Rattle.rtec_main.specs.Report.{report_text}
-use Rattle.rtec_main.specs.GroundText.{ground_text}
-use Rattle.rtec_main.specs.declared.status.ScriptFault.TheVariants as fault
-use Rattle.rtec_main.specs.declared.status.Status.{Status}
-use Rattle.rtec_main.specs.declared.status.Status.TheVariants as status
+use Rattle.rtec_main.specs.Script.{longest, merged, IsScriptOf, commands_of, is_plain}
+use Rattle.report_text.specs.Report.{report_text}
+use Rattle.ground_text.specs.GroundText.{ground_text}
+use Rattle.run_status.specs.declared.status.ScriptFault.TheVariants as fault
+use Rattle.run_status.specs.declared.status.Status.{Status}
+use Rattle.run_status.specs.declared.status.Status.TheVariants as status
 
 -- a file name is not empty and does not begin with `-`
 abbrev pub is_file : List ℕ → Bool
@@ -64,8 +64,7 @@ pub record Runs (world : World) (description : List ℕ) (program : Program) : T
 
 -- the commands and the count of ignored records of the script, as far as its bytes are told
 abbrev pub IsScript : World → List ℕ → Program → Script → Type 0
-IsScript world name program script = Told world name (λ text. (length text ≤ longest)
-    × (merged program text ≡ Ok script))
+IsScript world name program script = Told world name (λ text. IsScriptOf program text script)
 
 -- the text is the report of the two files
 pub record IsReport (world : World) (description script_name text : List ℕ) : Type 0 where

@@ -1,6 +1,7 @@
--- Merged scripts, and those that `recognise` runs: at most 1,000 adds and then one seal.
-use Rattle.std.specs.Prelude.{◌≡◌, ◌≤◌, ℕ, ◌-◌, nat_le, Bool, true, false, ◌&&◌, List, [], ◌∷◌}
-use Rattle.std.specs.Prelude.{◌++◌, length, map, take, slice_get, Option, Some, Result}
+-- Public contracts speak by this: merged scripts, and those that `recognise` runs, of at most 1,000
+-- adds and then one seal.
+use Rattle.std.specs.Prelude.{◌≡◌, ◌≤◌, ℕ, ◌-◌, nat_le, Bool, true, false, ◌&&◌, List, length, map}
+use Rattle.std.specs.Prelude.{take, slice_get, Option, Some, Result, Ok}
 use Rattle.std.specs.List.{list_all}
 use Rattle.ground_types.specs.declared.entries.Act.TheVariants.{Add}
 use Rattle.ground_types.specs.declared.entries.Command.{Command}
@@ -20,6 +21,11 @@ longest = 67108864
 abbrev pub merged : Program → List ℕ → Result Script StreamRefused
 merged program text = script_of program shape.Merged (records_of text)
 
+-- the bytes are a merged script that is not too long
+pub record IsScriptOf (program : Program) (text : List ℕ) (found : Script) : Type 0 where
+  pub short : length text ≤ longest
+  pub is : merged program text ≡ Ok found
+
 abbrev pub commands_of : List Placed → List Command
 commands_of placed = map (λ p. p.command) placed
 
@@ -36,8 +42,3 @@ abbrev pub is_plain : List Command → Bool
 is_plain commands =
     is_seal (slice_get commands (length commands - 1)) && nat_le (length commands) 1001
     && list_all is_add (take (length commands - 1) commands)
-
--- the same in parts
-abbrev pub IsPlainScript : List Command → Type 0
-IsPlainScript commands = (adds : List Command) × (list_all is_add adds ≡ true)
-    × (length adds ≤ 1000) × (commands ≡ adds ++ Seal ∷ [])

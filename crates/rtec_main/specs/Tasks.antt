@@ -1,10 +1,11 @@
--- What the code lends of a task, and what the text of a task comes to before anything is written.
+-- For private functions alone: what the code lends of a task, and what the text of a task comes
+-- to before anything is written.
 use Rattle.std.specs.Prelude.{◌≡◌, ◌⊎◌, ℕ, List, Option, Result, Ok, Err, Vec}
 use Rattle.std.specs.declared.alloc.Global.{Global}
 use Rattle.rtec_main.specs.declared.words.Task.{Task as LentTask}
 use Rattle.rtec_main.specs.declared.words.Task.TheVariants as lent
-use Rattle.rtec_main.specs.declared.status.Status.{Status}
-use Rattle.rtec_main.specs.declared.status.Status.TheVariants as status
+use Rattle.run_status.specs.declared.status.Status.{Status}
+use Rattle.run_status.specs.declared.status.Status.TheVariants as status
 use Rattle.rtec_main.specs.Run.{World, Task, Recognise, Ground, IsText, Refuses, Concludes}
 
 abbrev pub task_by : LentTask → Task

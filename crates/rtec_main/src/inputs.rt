@@ -4,15 +4,16 @@ ghost use Rattle.rtec_main.specs.Reads.{IsDescriptionOf, IsSoundDescription, IsD
 ghost use Rattle.rtec_main.specs.Reads.{has_described_limit, IsWhyNoDescription};
 
 use crate::reads::{Unread, read_all};
-use crate::status::{DescFault, Status};
 use domain_decl::{Checked, DeclRefused, check};
 use ground_rules::{GroundRefused, ground};
 use ground_types::Program;
 use rt_base::{Inputs, Limit};
 use rule_read::{ReadRefused, Syntax, read};
+use run_status::{DescFault, Status};
 use std::alloc::Global;
 use strata_check::{LayerList, StrataRefused, layers};
 
+// The most bytes of a description.
 const LONGEST_DESCRIPTION: usize = 1_048_576;
 
 /// A description that is accepted and within the limits.
@@ -26,6 +27,21 @@ pub struct Description {
     pub layers: LayerList,
     /// Its program.
     pub program: Program,
+}
+
+impl Description {
+    /// Its program alone. The statements and what they declare are let go.
+    pub fn into_program(self) -> Program
+        ensures { result ≡ self.program }
+    {
+        let Description {
+            program,
+            syntax: _,
+            checked: _,
+            layers: _,
+        } = self;
+        program
+    }
 }
 
 /// Why a description is not taken.

@@ -1,15 +1,12 @@
 //! `rtec`, a recogniser of composite activities over streams of events, after the Run-Time Event
 //! Calculus. Its promise stands on `run`: what is written is the report of a script under a
 //! description, or the ground text of a description, and each other status but want of memory names
-//! its cause. Words, inputs, replies, rows and printing are private parts. `main` makes the real
-//! inputs, the real standard output and a gate that holds nobody, and calls `run`.
+//! its cause. Words, inputs, replies and the joining of a report are private parts. `main` makes
+//! the real inputs, the real standard output and a gate that holds nobody, and calls `run`.
 #![tactic(auto)]
 
-mod ends;
-mod ground_text;
 mod inputs;
 mod laws;
-mod printing;
 mod reads;
 mod recognise;
 mod replies;
@@ -17,13 +14,12 @@ mod report;
 mod run;
 mod script;
 mod standing;
-mod status;
 mod words;
 mod writes;
 
 use crate::run::run;
-use crate::status::Status;
 use rt_base::{FileInputs, NoGate, StdSink, Word};
+pub use run_status::{DescFault, ScriptFault, Status};
 use std::alloc::AllocError;
 use std::env::Env;
 use std::process::ExitCode;

@@ -7,6 +7,9 @@ ghost use Rattle.rtec_main.specs.Reads.{Reads, Continues, IsFaultOnlyIf};
 use rt_base::Inputs;
 use std::alloc::Global;
 
+// The most bytes of one read.
+const PIECE: usize = 65_536;
+
 /// Why an input was not read.
 #[derive(Clone, Copy, Debug, PartialEq, Eq)]
 pub enum Unread {
@@ -59,7 +62,7 @@ pub fn read_all<I: Inputs>(
     ensures later { (other : List ℕ) → I.faults inputs.old other ≤ I.faults inputs.new other }
 {
     let mut text = Vec::new(alloc);
-    let mut buffer = [0; 4096];
+    let mut buffer = [0; PIECE];
     'read: while text.len() <= limit {
         let room = buffer.len().min(limit + 1 - text.len());
         let count = match read_piece(inputs, name, &mut text, &mut buffer[..room]) {

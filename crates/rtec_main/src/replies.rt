@@ -3,11 +3,12 @@ ghost use Rattle.std.specs.Prelude.{◌≡◌, ◌<◌, ◌≤◌, ◌∷◌, []
 ghost use Rattle.std.specs.Option.{option_copied};
 ghost use Rattle.ground_types.specs.Windows.{IsSoundPlan};
 ghost use Rattle.ground_types.specs.History.{counts_for, is_add, stands, seals, reply_to, IsLegal};
-ghost use Rattle.rtec_main.specs.Script.{commands_of, IsPlainScript};
-ghost use Rattle.rtec_main.specs.Recognised.{IsPlainHistory};
-ghost use Rattle.rtec_main.specs.Report.{entries_of, history_of};
+ghost use Rattle.rtec_main.specs.Script.{commands_of};
+ghost use Rattle.rtec_main.specs.Recognised.{IsPlainHistory, IsPlainScript};
+ghost use Rattle.report_text.specs.Report.{entries_of, history_of};
 
 use ground_types::{Act, Command, Entry, EventId, Plan, Point, Reply};
+use report_text::count_seals;
 use rt_base::OutOfMemory;
 use std::alloc::Global;
 use stream_read::Placed;
@@ -52,16 +53,6 @@ fn does_stand(history: &[Entry], event: EventId, at: Point) -> bool
     ensures { result ≡ stands history.now event at }
 {
     is_add(last_entry(history, event, at))
-}
-
-/// How many seals a history has.
-pub fn count_seals(history: &[Entry]) -> usize
-    ensures { result ≡ seals history.now }
-{
-    history
-        .iter()
-        .filter(|entry| matches!(entry, Entry::Seal { .. }))
-        .count()
 }
 
 // The reply to an add or a revoke after a history of at most as many seals as queries.

@@ -1,62 +1,46 @@
 // The report of a script that runs.
-ghost use Rattle.std.specs.Prelude.{◌≡◌, ◌≤◌, ◌++◌, true, map, flat_map, OnOk, IfOk};
+ghost use Rattle.std.specs.Prelude.{◌≡◌, ◌++◌, true, flat_map, OnOk, IfOk};
 ghost use Rattle.std.specs.List.{list_all};
-ghost use Rattle.ground_types.specs.Windows.{IsSoundPlan};
-ghost use Rattle.ground_types.specs.Sound.{IsSound};
-ghost use Rattle.domain_decl.specs.Sound.{is_sound_domain};
+ghost use Rattle.ground_types.specs.Publication.{publication};
+ghost use Rattle.ground_types.specs.Touched.{evaluations};
+ghost use Rattle.decl_known.specs.Sound.{is_sound_domain};
+ghost use Rattle.text_pieces.specs.Lines.{text_of_lines};
+ghost use Rattle.report_text.specs.Report.{report_text};
+ghost use Rattle.report_text.specs.Printed.{feed_lines, block_of, end_of};
 ghost use Rattle.rtec_main.specs.Programs.{IsDeclared};
-ghost use Rattle.rtec_main.specs.Script.{commands_of, IsPlainScript};
-ghost use Rattle.delay_revise.specs.Published.{published};
-ghost use Rattle.rtec_main.specs.Report.{report_text, text_of_lines};
-ghost use Rattle.rtec_main.specs.Printed.{feed_lines, block_of};
+ghost use Rattle.rtec_main.specs.Recognised.{IsPlainHistory, IsPlainScript};
+ghost use Rattle.rtec_main.specs.Script.{commands_of};
 
-use crate::ends::put_end;
-use crate::printing::{put_feed, put_query, put_rows};
 use crate::recognise::recognise;
 use crate::replies::history;
-use delay_revise::Recognised;
 use ground_types::{Entry, Program};
+use report_text::{put_feeds, put_last_lines, put_recognised};
 use rt_base::OutOfMemory;
 use std::alloc::Global;
 use stream_read::Script;
 
-// Adds the lines of the adds and revokes. Refused, it leaves a part of them.
-fn put_feeds(
+// Adds the report of a history with so many ignored records beside it.
+fn put_report(
     alloc: Global,
     out: &mut Vec<u8>,
     program: &Program,
     history: &[Entry],
+    ignored: u64,
 ) -> Result<(), OutOfMemory>
-    requires sound { IsSound program.now }
+    requires program { IsDeclared program.now }
     requires domains { list_all is_sound_domain program.now.domains ≡ true }
-    ensures { OnOk result (out.new.items ≡ out.old.items ++ text_of_lines
-        (flat_map (feed_lines program.now) history.now)) }
+    requires history { IsPlainHistory history.now }
+    ensures { OnOk result (out.new.items ≡ out.old.items
+        ++ text_of_lines (flat_map (feed_lines program.now) history.now)
+        ++ text_of_lines (block_of program.now 0 (publication program.now history.now 0).rows
+        (evaluations program.now history.now 0))
+        ++ text_of_lines (end_of history.now ignored (publication program.now history.now 0).rows
+        (evaluations program.now history.now 0))) }
 {
-    let mut args = Vec::new(alloc);
-    for entry in history {
-        put_feed(alloc, out, program, *entry, &mut args)?;
-    }
-    Ok(())
-}
-
-// Adds the block of query k. Refused, it leaves a part of it.
-fn put_block(
-    out: &mut Vec<u8>,
-    program: &Program,
-    k: u32,
-    recognised: &Recognised,
-) -> Result<(), OutOfMemory>
-    requires sound { IsSoundPlan program.now.plan }
-    requires within { k ≤ program.now.plan.queries }
-    ensures { OnOk result (out.new.items
-        ≡ out.old.items
-        ++ text_of_lines (block_of program.now k (map published recognised.now.rows)
-        recognised.now.evaluations)) }
-{
-    let plan = &program.plan;
-    let q = plan.right(k);
-    put_query(out, k, plan.left(k), q, recognised.evaluations)?;
-    put_rows(out, program, q, recognised.rows.as_slice())
+    let recognised = recognise(alloc, program, history)?;
+    put_feeds(alloc, out, program, history)?;
+    put_recognised(out, program, 0, &recognised)?;
+    put_last_lines(out, history, ignored, &recognised)
 }
 
 /// The report text of a script that runs. A text that memory did not suffice for is dropped.
@@ -68,10 +52,7 @@ pub fn report(alloc: Global, program: &Program, script: &Script) -> Result<Vec<u
         (commands_of script.now.commands) script.now.ignored) }
 {
     let history = history(alloc, &program.plan, script.commands.as_slice())?;
-    let recognised = recognise(alloc, program, &history)?;
     let mut text = Vec::new(alloc);
-    put_feeds(alloc, &mut text, program, &history)?;
-    put_block(&mut text, program, 0, &recognised)?;
-    put_end(&mut text, &history, script.ignored, &recognised)?;
+    put_report(alloc, &mut text, program, &history, script.ignored)?;
     Ok(text)
 }

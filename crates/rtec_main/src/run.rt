@@ -3,26 +3,16 @@ ghost use Rattle.std.specs.Prelude.{◌≡◌, ◌≤◌, ℕ, List};
 ghost use Rattle.rtec_main.specs.Run.{Recognise, Ground, MeansOfWords, Completes, task_of};
 ghost use Rattle.rtec_main.specs.Tasks.{task_by, Answers, ConcludesAny};
 
-use crate::ground_text::ground_text;
 use crate::inputs::read_description;
 use crate::report::report;
 use crate::script::read_script;
-use crate::status::Status;
 use crate::words::{Task, task_of};
 use crate::writes::write_all;
-use rt_base::{Failed, Gate, Inputs, OutOfMemory, Sink, Word};
+use ground_text::ground_text;
+use rt_base::{Failed, Gate, Inputs, Sink, Word};
+use run_status::Status;
 use std::alloc::Global;
 use std::thread::Threads;
-
-impl From<OutOfMemory> for Status {
-    ghost use Rattle.rtec_main.specs.declared.status.Status.TheVariants as status;
-
-    ghost from_gives = { λ _ s. s ≡ status.OutOfMemory };
-
-    fn from(_: OutOfMemory) -> Status {
-        Status::OutOfMemory
-    }
-}
 
 // The report of a script under a description.
 fn report_of<I: Inputs>(
@@ -39,8 +29,9 @@ fn report_of<I: Inputs>(
     ensures later { (name : List ℕ) → I.faults inputs.old name ≤ I.faults inputs.new name }
 {
     let described = read_description(alloc, inputs, description)?;
-    let script = read_script(alloc, inputs, script, &described.program)?;
-    Ok(report(alloc, &described.program, &script)?)
+    let program = described.into_program();
+    let script = read_script(alloc, inputs, script, &program)?;
+    Ok(report(alloc, &program, &script)?)
 }
 
 // The ground text of a description.
@@ -57,7 +48,12 @@ fn grounding_of<I: Inputs>(
     ensures later { (name : List ℕ) → I.faults inputs.old name ≤ I.faults inputs.new name }
 {
     let described = read_description(alloc, inputs, description)?;
-    Ok(ground_text(alloc, &described)?)
+    Ok(ground_text(
+        alloc,
+        &described.syntax,
+        &described.checked,
+        &described.program,
+    )?)
 }
 
 // The text that a task asks for, or why there is none.

@@ -2,19 +2,21 @@
 ghost use Rattle.std.specs.Prelude.{◌≡◌, ◌≤◌, ℕ, List, length, Some, IfOk, IfErr, IfSome};
 ghost use Rattle.std.specs.List.{list_all};
 ghost use Rattle.ground_types.specs.Sound.{IsSound};
-ghost use Rattle.rtec_main.specs.Script.{commands_of, is_add, is_seal, is_plain, IsPlainScript};
-ghost use Rattle.rtec_main.specs.Reads.{IsScriptRefused, IsWhyNoScript, IsScriptOf};
+ghost use Rattle.rtec_main.specs.Script.{commands_of, is_add, is_seal, is_plain, IsScriptOf};
+ghost use Rattle.rtec_main.specs.Recognised.{IsPlainScript};
+ghost use Rattle.rtec_main.specs.Reads.{IsScriptRefused, IsWhyNoScript};
 
 use crate::reads::{Unread, read_all};
-use crate::status::{ScriptFault, Status};
 use ground_types::{Act, Command, Program};
 use rt_base::{Inputs, Limit};
+use run_status::{ScriptFault, Status};
 use std::alloc::Global;
 use stream_read::{Placed, Script, Shape, StreamRefused, commands};
 
+// The most bytes of a script.
 const LONGEST_SCRIPT: usize = 67_108_864;
 
-/// The most adds of a script that runs.
+// The most adds of a script that runs.
 const MOST_ADDS: usize = 1000;
 
 /// Why a script is not taken.
@@ -87,18 +89,21 @@ impl From<ScriptRefused> for Status {
     }
 }
 
+// Whether a command is an add.
 fn is_add(placed: &Placed) -> bool
     ensures { result ≡ is_add placed.now.command }
 {
     matches!(placed.command, Command::Feed { act: Act::Add, .. })
 }
 
+// Whether a command is a seal.
 fn is_seal(placed: &Placed) -> bool
     ensures { result ≡ is_seal (Some placed.now.command) }
 {
     matches!(placed.command, Command::Seal)
 }
 
+// Whether all commands are adds.
 fn are_adds(placed: &[Placed]) -> bool
     ensures { result ≡ list_all (λ p. is_add p.command) placed.now }
 {

@@ -1,6 +1,6 @@
 use Rattle.std.proofs.Common.{◌≡◌, subst, sym, map, rules, Err, IfErr, true}
-use Rattle.rule_read.specs.Forms.{plain}
-use Rattle.domain_decl.specs.Accepted.{plain_checked}
+use Rattle.rule_forms.specs.Forms.{plain}
+use Rattle.decl_known.specs.Checked.{plain_checked}
 use Rattle.rtec_main.specs.Reads.{IsDescriptionRefused, has_described_limit, unlayered, ungrounded}
 use Rattle.rtec_main.proofs.Describing.{unlayered_is_refused, ungrounded_limit}
 use Rattle.rtec_main.proofs.inputs.description_of.Goals as goal

@@ -6,7 +6,7 @@ use Rattle.ground_types.specs.declared.entries.Command.{Command}
 use Rattle.stream_read.specs.declared.script.Placed.{Placed}
 use Rattle.rtec_main.specs.Script.{commands_of}
 use Rattle.rtec_main.specs.Recognised.{IsPlainHistory}
-use Rattle.rtec_main.specs.Report.{history_of}
+use Rattle.report_text.specs.Report.{history_of}
 use Rattle.rtec_main.proofs.Histories.{unsealed, plain_all, plain_legal}
 use Rattle.rtec_main.proofs.replies.history.Goals as goal
 

@@ -1,6 +1,6 @@
 use Rattle.std.proofs.Common.{◌≡◌, take}
 use Rattle.rtec_main.specs.Script.{commands_of}
-use Rattle.rtec_main.specs.Report.{history_of}
+use Rattle.report_text.specs.Report.{history_of}
 use Rattle.rtec_main.proofs.replies.history.Given as goal
 
 -- the history of the commands so far

@@ -25,7 +25,9 @@ returns-clause-answer g c =
     let old : World = world_of (g.I.Inputs.bytes c.args.inputs.now)
     (g.I.Inputs.faults c.args.inputs.now) taken writes in
     grounding_given old c.args.description.now c.in_ok-described.described
-    c.in_ok-described.ensures.ok _ c.in_ok-ground_text.ensures
+    c.in_ok-described.ensures.ok _
+    (c.in_ok-ground_text.ensures c.in_ok-described.described.layers.of_name
+    c.in_ok-described.ensures.sound.is_program)
 
 pub returns-clause-complete : goal.returns-clause-complete
 returns-clause-complete g c =

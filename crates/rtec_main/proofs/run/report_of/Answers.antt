@@ -1,10 +1,13 @@
-use Rattle.std.proofs.Common.{◌≡◌, ◌∙◌, ℕ, List, Option, Err, IfSome, sym, subst, rules}
-use Rattle.rtec_main.specs.declared.status.Status.TheVariants as status
-use Rattle.rtec_main.specs.Reads.{description_status, script_status, IsScriptOf}
+use Rattle.std.proofs.Common.{◌≡◌, ◌∙◌, Err, ap, sym, subst, rules}
+use Rattle.run_status.specs.declared.status.Status.TheVariants as status
+use Rattle.report_text.specs.Report.{report_text}
+use Rattle.rtec_main.specs.Programs.{IsDeclared}
+use Rattle.rtec_main.specs.Script.{commands_of}
+use Rattle.rtec_main.specs.Reads.{description_status, script_status}
 use Rattle.rtec_main.specs.Run.{Concludes, World, Recognise}
 use Rattle.rtec_main.specs.Tasks.{world_of, status_of, Gives}
 use Rattle.rtec_main.proofs.DeclaredPrograms.{declared_program_is}
-use Rattle.rtec_main.proofs.Refusals.{script_refused_before}
+use Rattle.rtec_main.proofs.Refusals.{script_refused_before, script_before}
 use Rattle.rtec_main.proofs.Running.{refused_script, report_given}
 use Rattle.rtec_main.proofs.Concluding.{spent_report, refused_report_concludes}
 use Rattle.rtec_main.proofs.Concluding.{refused_script_concludes, report_concludes}
@@ -41,8 +44,9 @@ returns-in_err-script-clause-answer g c =
     (g.I.Inputs.bytes c.read_description.new.inputs c.args.script.now)
     (old.faults c.args.script.now) (g.I.Inputs.faults c.read_description.new.inputs
     c.args.script.now) (new.faults c.args.script.now)
-    c.in_ok-described.described.program c.in_err-script.field-0.0
-    (c.in_ok-described.ensures.same c.args.script.now) (c.in_ok-described.ensures.later
+    c.into_program-program.result c.in_ok-described.described.program c.in_err-script.field-0.0
+    c.into_program-program.ensures (c.in_ok-described.ensures.same c.args.script.now)
+    (c.in_ok-described.ensures.later
     c.args.script.now) c.in_err-script.ensures.err))
 
 pub returns-in_err-script-clause-complete : goal.returns-in_err-script-clause-complete
@@ -63,13 +67,15 @@ returns-in_err-script-clause-complete g c =
     (g.I.Inputs.bytes c.read_description.new.inputs c.args.script.now)
     (old.faults c.args.script.now) (g.I.Inputs.faults c.read_description.new.inputs
     c.args.script.now) (new.faults c.args.script.now)
-    c.in_ok-described.described.program c.in_err-script.field-0.0
-    (c.in_ok-described.ensures.same c.args.script.now) (c.in_ok-described.ensures.later
+    c.into_program-program.result c.in_ok-described.described.program c.in_err-script.field-0.0
+    c.into_program-program.ensures (c.in_ok-described.ensures.same c.args.script.now)
+    (c.in_ok-described.ensures.later
     c.args.script.now) c.in_err-script.ensures.err))
 
 pub report-requires-clause-program : goal.report-requires-clause-program
 report-requires-clause-program g c =
-    declared_program_is c.in_ok-described.described c.in_ok-described.ensures.sound
+    subst IsDeclared (sym c.into_program-program.ensures)
+    (declared_program_is c.in_ok-described.described c.in_ok-described.ensures.sound)
 
 pub returns-in_err-report-clause-complete : goal.returns-in_err-report-clause-complete
 returns-in_err-report-clause-complete g c =
@@ -96,10 +102,15 @@ returns-clause-answer g c =
     report_given old c.args.description.now c.args.script.now c.in_ok-described.described
     c.in_ok-described.ensures.sound c.in_ok-described.ensures.ok
     c.in_ok-script.script
-    (subst (λ (b : Option (List ℕ)). IfSome b
-    (λ text. IsScriptOf c.in_ok-described.described.program text c.in_ok-script.script))
-    (c.in_ok-described.ensures.same c.args.script.now) c.in_ok-script.ensures.ok)
-    c.in_ok-script.ensures.plain _ c.in_ok-report.ensures
+    (script_before (old.bytes c.args.script.now)
+    (g.I.Inputs.bytes c.read_description.new.inputs c.args.script.now)
+    c.into_program-program.result c.in_ok-described.described.program c.in_ok-script.script
+    c.into_program-program.ensures (c.in_ok-described.ensures.same c.args.script.now)
+    c.in_ok-script.ensures.ok)
+    c.in_ok-script.ensures.plain _
+    (c.in_ok-report.ensures
+    ∙ ap (λ program. report_text program (commands_of c.in_ok-script.script.commands)
+    c.in_ok-script.script.ignored) c.into_program-program.ensures)
 
 pub returns-clause-complete : goal.returns-clause-complete
 returns-clause-complete g c =
@@ -111,9 +122,11 @@ returns-clause-complete g c =
     report_concludes old new c.args.description.now c.args.script.now c.in_ok-described.described
     c.in_ok-described.ensures.sound c.in_ok-described.ensures.ok
     c.in_ok-script.script
-    (subst (λ (b : Option (List ℕ)). IfSome b
-    (λ text. IsScriptOf c.in_ok-described.described.program text c.in_ok-script.script))
-    (c.in_ok-described.ensures.same c.args.script.now) c.in_ok-script.ensures.ok)
+    (script_before (old.bytes c.args.script.now)
+    (g.I.Inputs.bytes c.read_description.new.inputs c.args.script.now)
+    c.into_program-program.result c.in_ok-described.described.program c.in_ok-script.script
+    c.into_program-program.ensures (c.in_ok-described.ensures.same c.args.script.now)
+    c.in_ok-script.ensures.ok)
     c.in_ok-script.ensures.plain
 
 pub returns-clause-same : goal.returns-clause-same

@@ -1,5 +1,5 @@
 use Rattle.std.proofs.Common.{refl}
-use Rattle.rtec_main.specs.declared.status.Status.TheVariants as status
+use Rattle.run_status.specs.declared.status.Status.TheVariants as status
 use Rattle.rtec_main.specs.Run.{World}
 use Rattle.rtec_main.specs.Tasks.{task_by, world_of}
 use Rattle.rtec_main.proofs.Ending.{refused_means, words_complete}

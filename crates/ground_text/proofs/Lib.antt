@@ -1,0 +1,3 @@
+pub mod GroundLines
+pub mod GroundTexts
+pub mod UnitCounts

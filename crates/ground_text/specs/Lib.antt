@@ -1,0 +1,2 @@
+pub mod GroundText
+pub mod Examples

@@ -1,0 +1,16 @@
+//! The text of reports: the lines of entries, the block of a query, and the last three lines. Its
+//! promise: each call adds exactly the text of its definition, which stands in *report text*, or a
+//! part of it where memory runs out. It stands on `text_pieces` for atoms, on `ground_names` for
+//! the words of events, and on `delay_revise` for what is recognised.
+#![tactic(auto)]
+
+mod blocks;
+mod ends;
+mod entries;
+mod laws;
+mod rows;
+
+pub use blocks::put_recognised;
+pub use ends::{count_seals, put_last_lines};
+pub use entries::put_feeds;
+pub use laws::made_history_is_legal;

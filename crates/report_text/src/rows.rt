@@ -1,0 +1,167 @@
+// The lines of rows. Each `put_` function adds to the end of a text. Where memory runs out, the
+// text keeps what it had, and may have a part of what was to be added behind it.
+ghost use Rattle.std.specs.Prelude.{◌≡◌, ◌++◌, map, flat_map, slice_get, codes, decimal, OnOk};
+ghost use Rattle.ground_types.specs.Publication.{fluent_rows};
+ghost use Rattle.simple_fluent.specs.Rows.{pairs};
+ghost use Rattle.delay_revise.specs.Published.{published};
+ghost use Rattle.text_pieces.specs.Lines.{text_of_lines};
+ghost use Rattle.text_pieces.specs.Atoms.{unit_atom};
+ghost use Rattle.report_text.specs.Report.{value_words, span_text, fluent_lines, unit_lines};
+ghost use Rattle.report_text.specs.Report.{row_lines};
+ghost use Rattle.report_text.specs.EventLines.{event_lines};
+
+use ground_types::{Point, Program, Unit, name_of};
+use rt_base::{OutOfMemory, Word};
+use span_algebra::{Span, Spans, UnitRows};
+use text_pieces::{Piece, put_all, put_text, put_unit_atom};
+
+// The words of the values of a unit.
+fn value_words<'a>(program: &'a Program, unit: &Unit) -> &'a [Word]
+    ensures { result.now ≡ value_words (slice_get program.now.names unit.now.name) }
+{
+    name_of(program, unit).map_or(&[], |name| name.values.as_slice())
+}
+
+// Adds what the line of a row begins with: the unit's atom behind two spaces.
+fn put_row_front(out: &mut Vec<u8>, program: &Program, unit: &Unit) -> Result<(), OutOfMemory>
+    ensures { OnOk result (out.new.items ≡ out.old.items ++ (codes "  " ++ unit_atom program.now
+        unit.now)) }
+{
+    put_text(out, "  ")?;
+    put_unit_atom(out, program, unit)
+}
+
+// Adds a span, which is open where it ends after the window.
+fn put_span(out: &mut Vec<u8>, q: Point, span: Span) -> Result<(), OutOfMemory>
+    ensures { OnOk result (out.new.items ≡ out.old.items ++ span_text q (span.after, span.until)) }
+{
+    let after = Piece::Number(span.after);
+    if span.until > q {
+        put_all(out, &[Piece::Text(" ("), after, Piece::Text(",open)")])
+    } else {
+        let until = Piece::Number(span.until);
+        put_all(
+            out,
+            &[
+                Piece::Text(" ("),
+                after,
+                Piece::Text(","),
+                until,
+                Piece::Text("]"),
+            ],
+        )
+    }
+}
+
+// Adds spans, one after the other.
+fn put_spans(out: &mut Vec<u8>, q: Point, spans: &[Span]) -> Result<(), OutOfMemory>
+    ensures { OnOk result (out.new.items ≡ out.old.items ++ flat_map (span_text q)
+        (pairs spans.now)) }
+{
+    for span in spans {
+        put_span(out, q, *span)?;
+    }
+    Ok(())
+}
+
+// Adds the line of a value of a unit, if its row is not empty.
+fn put_fluent(
+    out: &mut Vec<u8>,
+    program: &Program,
+    q: Point,
+    unit: &Unit,
+    value: &str,
+    spans: &[Span],
+) -> Result<(), OutOfMemory>
+    ensures { OnOk result (out.new.items
+        ≡ out.old.items ++ text_of_lines (fluent_lines q (unit_atom program.now unit.now)
+        (value.now, pairs spans.now))) }
+{
+    if spans.is_empty() {
+        return Ok(());
+    }
+    put_row_front(out, program, unit)?;
+    put_all(out, &[Piece::Text("="), Piece::Text(value)])?;
+    put_spans(out, q, spans)?;
+    put_text(out, "\n")
+}
+
+// Adds the lines of a fluent, from the rows of its values.
+fn put_fluents(
+    out: &mut Vec<u8>,
+    program: &Program,
+    q: Point,
+    unit: &Unit,
+    rows: &[Spans],
+) -> Result<(), OutOfMemory>
+    ensures { OnOk result (out.new.items
+        ≡ out.old.items ++ text_of_lines (unit_lines program.now q unit.now
+        (fluent_rows (map pairs rows.now)))) }
+{
+    for (value, spans) in value_words(program, unit).iter().zip(rows) {
+        put_fluent(out, program, q, unit, value.as_str(), spans.as_slice())?;
+    }
+    Ok(())
+}
+
+// Adds points, one after the other.
+fn put_points(out: &mut Vec<u8>, points: &[Point]) -> Result<(), OutOfMemory>
+    ensures { OnOk result (out.new.items ≡ out.old.items ++ flat_map (λ t. codes " " ++ decimal t)
+        points.now) }
+{
+    for point in points {
+        put_all(out, &[Piece::Text(" "), Piece::Number(*point)])?;
+    }
+    Ok(())
+}
+
+// Adds the line of a derived event, if it occurs.
+fn put_event(
+    out: &mut Vec<u8>,
+    program: &Program,
+    unit: &Unit,
+    points: &[Point],
+) -> Result<(), OutOfMemory>
+    ensures { OnOk result (out.new.items ≡ out.old.items ++ text_of_lines
+        (event_lines (unit_atom program.now unit.now) points.now)) }
+{
+    if points.is_empty() {
+        return Ok(());
+    }
+    put_row_front(out, program, unit)?;
+    put_points(out, points)?;
+    put_text(out, "\n")
+}
+
+// Adds the lines of a unit.
+fn put_unit(
+    out: &mut Vec<u8>,
+    program: &Program,
+    q: Point,
+    unit: &Unit,
+    rows: &UnitRows,
+) -> Result<(), OutOfMemory>
+    ensures { OnOk result (out.new.items
+        ≡ out.old.items ++ text_of_lines (unit_lines program.now q unit.now (published rows.now))) }
+{
+    match rows {
+        UnitRows::Fluent(rows) => put_fluents(out, program, q, unit, rows.as_slice()),
+        UnitRows::Event(points) => put_event(out, program, unit, points.as_slice()),
+    }
+}
+
+/// Adds the lines of the rows that are not empty, unit by unit.
+pub fn put_rows(
+    out: &mut Vec<u8>,
+    program: &Program,
+    q: Point,
+    rows: &[UnitRows],
+) -> Result<(), OutOfMemory>
+    ensures { OnOk result (out.new.items
+        ≡ out.old.items ++ text_of_lines (row_lines program.now q (map published rows.now))) }
+{
+    for (unit, rows) in program.units.as_slice().iter().zip(rows) {
+        put_unit(out, program, q, unit, rows)?;
+    }
+    Ok(())
+}

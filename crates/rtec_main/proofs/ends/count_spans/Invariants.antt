@@ -1,8 +1,0 @@
-use Rattle.std.proofs.Common.{◌≡◌, ◌≤◌, ◌*◌, ◌-◌, ◌^◌, length, take, map}
-use Rattle.std.specs.Prelude.{sum_by}
-use Rattle.simple_fluent.specs.Rows.{pairs}
-use Rattle.rtec_main.proofs.ends.count_spans.Given as goal
-
-abbrev pub invariant-loop-spans : goal.invariant-loop-spans
-invariant-loop-spans l = (l.count ≡ sum_by length (map pairs (take l.spans-index l.rows)))
-    × (l.count ≤ l.spans-index * (2 ^ 64 - 1))

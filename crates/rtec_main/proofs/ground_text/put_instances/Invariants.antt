@@ -1,8 +1,0 @@
-use Rattle.std.proofs.Common.{◌≡◌, ◌++◌, flat_map, take}
-use Rattle.ground_rules.specs.Listed.{listed_at}
-use Rattle.rtec_main.specs.GroundText.{instance_text}
-use Rattle.rtec_main.proofs.ground_text.put_instances.Given as goal
-
-abbrev pub invariant-loop-place : goal.invariant-loop-place
-invariant-loop-place l = l.out.items ≡ l.fn.out.items ++ flat_map instance_text
-    (take l.place (listed_at l.instances l.unit))

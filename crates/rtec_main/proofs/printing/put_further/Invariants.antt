@@ -1,9 +1,0 @@
-use Rattle.std.proofs.Common.{◌≡◌, ◌++◌, length, take, codes}
-use Rattle.std.specs.Prelude.{flat_map, zip}
-use Rattle.rtec_main.specs.Atoms.{entity_word}
-use Rattle.rtec_main.proofs.printing.put_further.Given as goal
-
-abbrev pub invariant-loop-domain : goal.invariant-loop-domain
-invariant-loop-domain l =
-    l.out.items ≡ l.fn.out.items ++ flat_map (λ place. codes "," ++ entity_word l.domains place)
-    (take (length l.yielded) (zip l.places l.args))

@@ -1,9 +1,0 @@
-use Rattle.std.proofs.Common.{◌≡◌, ◌++◌, take}
-use Rattle.std.specs.Prelude.{flat_map}
-use Rattle.simple_fluent.specs.Rows.{pairs}
-use Rattle.rtec_main.specs.Report.{span_text}
-use Rattle.rtec_main.proofs.printing.put_spans.Given as goal
-
-abbrev pub invariant-loop-span : goal.invariant-loop-span
-invariant-loop-span l = l.out.items ≡ l.fn.out.items ++ flat_map (span_text l.q)
-    (pairs (take l.span-index l.spans))
