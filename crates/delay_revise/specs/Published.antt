@@ -1,5 +1,5 @@
 -- Public contracts speak by this: what is computed, against what is published of a history.
-use Rattle.std.specs.Prelude.{◌≡◌, ◌<◌, ◌≤◌, ℕ, Bool, true, List, map, slice_get, Some}
+use Rattle.std.specs.Prelude.{◌≡◌, ◌<◌, ◌≤◌, ℕ, suc, Bool, true, List, map, slice_get, Some}
 use Rattle.std.specs.Prelude.{option_map}
 use Rattle.ground_types.specs.History.{stands, before_seal}
 use Rattle.ground_types.specs.Members.{contains}
@@ -31,6 +31,13 @@ abbrev pub OccurIn : Program → List Entry → ℕ → (ℕ → ℕ → Bool) �
 OccurIn program history k occurs =
     (event t : ℕ) → event < program.events → left program.plan k < t → t ≤ right program.plan k →
     occurs event t ≡ stands (before_seal history k) event t
+
+-- these events occur where the windows of query k and of the next one overlap as they stand at the
+-- seal of query k
+abbrev pub OccurBefore : Program → List Entry → ℕ → (ℕ → ℕ → Bool) → Type 0
+OccurBefore program history k occurs =
+    (event t : ℕ) → event < program.events → left program.plan (suc k) < t
+    → t ≤ right program.plan k → occurs event t ≡ stands (before_seal history k) event t
 
 -- these units have the rows that are published of query k
 abbrev pub HaveRowsOf : Program → List Entry → ℕ → List ℕ → List UnitRows → Type 0

@@ -15,20 +15,20 @@ ghost use Rattle.span_algebra.specs.Normal.{has};
 ghost use Rattle.event_store.specs.Standing.{Events, standing, stood};
 ghost use Rattle.layer_cache.specs.Rows.{Cached};
 ghost use Rattle.point_rule.specs.Known.{known, is_open};
-ghost use Rattle.delay_revise.specs.Published.{OccurIn, HaveRowsOf};
+ghost use Rattle.delay_revise.specs.Published.{OccurIn, OccurBefore, HaveRowsOf};
 
 /// The points that `touched` of `point_rule` gives are the touched points of a rule in a query of a
 /// history after the first: where the old rows of the units that the rule names are those that are
 /// published of the query before, and the new ones those of this query; and where the store's
-/// events, in each of the two windows, stood when it was settled last as at the seal before, and
-/// stand as at this seal.
+/// events stand in this query's window as at its seal, and stood when it was settled last, where
+/// this window overlaps the one before, as at the seal before.
 pub fn touched_law()
     ensures { (program : Program) (history : List Entry) (k values : ℕ) (units : List ℕ)
         (rule : Rule) (cached : Cached) (store : Events) → IsSound program
         → rule_fits program values rule ≡ true
         → list_all (contains units) (units_of_rule rule) ≡ true →
         HaveRowsOf program history k units cached.before →
-        OccurIn program history k (stood store) →
+        OccurBefore program history k (stood store) →
         HaveRowsOf program history (suc k) units cached.rows →
         OccurIn program history (suc k) (λ event t. has (standing store event) t) →
         points (λ t. happens (known cached.rows store) rule.trigger t
