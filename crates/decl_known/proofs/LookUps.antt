@@ -15,7 +15,7 @@ by_place : (o : Option (List (List ℕ))) (d : Option Domain)
     → MatchOption o (Unit {0}) (λ set. IsSomeAnd d (IsOfDomain set))
     → MatchOption d (Unit {0}) (λ domain. IsSomeAnd o (λ set. IsOfDomain set domain))
     → IsSetOf (words_in o) (entities_in d)
-by_place None None p q = record { same = λ word. refl; distinct = λ h. refl }
+by_place None None p q = record { once = refl; same = λ word. refl; distinct = λ h. refl }
 by_place None (Some d) p q = absurd q
 by_place (Some s) None p q = absurd p
 by_place (Some s) (Some d) p q = p

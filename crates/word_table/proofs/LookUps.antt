@@ -1,7 +1,8 @@
 -- Words that are looked up, and names by the places of their words.
 use Rattle.std.proofs.Common.{◌≡◌, ℕ, zero, suc, ◌+◌, nat_lt, Bool, true, false, true≢false, not}
 use Rattle.std.proofs.Common.{cond, ◌||◌, ◌&&◌, List, [], ◌∷◌, ◌++◌, length, map, get_or, Option}
-use Rattle.std.proofs.Common.{Some, None, refl, sym, ap, ◌∙◌, arith, if◌then◌else◌, option_map}
+use Rattle.std.proofs.Common.{Some, None, refl, sym, ap, ap₂, ◌∙◌, arith, if◌then◌else◌}
+use Rattle.std.proofs.Common.{option_map}
 use Rattle.std.proofs.lemmas.Bool.Decides.{nat_tests}
 use Rattle.std.proofs.lemmas.List.{length-map}
 use Rattle.std.proofs.lemmas.List.Folds.{list_any-append, find_at}
@@ -67,6 +68,14 @@ one_more_same set now words w added test put same =
     λ word. has_put set now w added test put word ∙ ap (λ b. b || (bytes_eq w word || false))
     (same word) ∙ sym (list_any-append (λ o. bytes_eq o word) words (w ∷ []))
 
+-- no word stands in it twice
+one_more_once : (set now : List (List ℕ)) (w : List ℕ) (added : Bool) → added ≡ not (has set w)
+    → now ≡ (if added then set ++ w ∷ [] else set) → is_distinct set ≡ true
+    → is_distinct now ≡ true
+one_more_once set now w true test put once = ap is_distinct put ∙ is_distinct-push set w
+    ∙ ap₂ (λ a b. a && b) once (sym test)
+one_more_once set now w false test put once = ap is_distinct put ∙ once
+
 -- and where they are distinct, it is the list of them
 one_more_distinct : (set now words : List (List ℕ)) (w : List ℕ) (added : Bool)
     → added ≡ not (has set w) → now ≡ (if added then set ++ w ∷ [] else set)
@@ -83,6 +92,7 @@ pub one_more : (set now words : List (List ℕ)) (w : List ℕ) (added : Bool)
     → added ≡ not (has set w) → now ≡ (if added then set ++ w ∷ [] else set) → IsSetOf set words
     → IsSetOf now (words ++ w ∷ [])
 one_more set now words w added test put held = record {
+  once = one_more_once set now w added test put held.once;
   same = one_more_same set now words w added test put held.same;
   distinct = one_more_distinct set now words w added test put held.distinct;
 }
