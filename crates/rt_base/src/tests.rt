@@ -59,12 +59,18 @@ fn a_sink_takes_pieces_until_its_room_is_full(rt: HostRuntime) -> Result<(), Fai
 // Two files: a short one, and one of more than a piece, whose bytes count up to 250 and begin anew.
 const NAMES: [&str; 2] = ["rt_base_short.txt", "rt_base_long.txt"];
 
-// Writes both.
-fn write_files(rt: &HostRuntime) -> Result<(), Fail> {
-    let mut bytes = Vec::new(rt.alloc());
+// What the long file has.
+fn long_bytes(alloc: Global) -> Result<Vec<u8>, Fail> {
+    let mut bytes = Vec::new(alloc);
     for place in 0..70000u32 {
         bytes.push((place % 251) as u8)?;
     }
+    Ok(bytes)
+}
+
+// Writes both.
+fn write_files(rt: &HostRuntime) -> Result<(), Fail> {
+    let bytes = long_bytes(rt.alloc())?;
     fs::write(rt, NAMES[0], b"edge")?;
     fs::write(rt, NAMES[1], bytes.as_slice())?;
     Ok(())
@@ -83,21 +89,24 @@ fn real_files_are_read_at_any_place(rt: HostRuntime) -> Result<(), Fail> {
     write_files(&rt)?;
     let mut inputs = FileInputs::new(rt.clone()?);
     let mut buffer = [0; 70000];
+    let bytes = long_bytes(rt.alloc())?;
+    let all = bytes.as_slice();
 
-    // Name, place: how many bytes, and the first of them.
+    // Name, place: the bytes that are read.
     let [short, long] = NAMES;
     let calls = [
-        (short, 1, Some((3, b'd'))),
-        (long, 0, Some((65536, 0))),
-        (long, 65536, Some((4464, 25))),
+        (short, 1, Some(b"dge".as_slice())),
+        (long, 0, all.get(..65536)),
+        (long, 65536, all.get(65536..)),
+        (long, 0, all.get(..65536)),
         ("rt_base_none.txt", 0, None),
-        (long, 252, Some((65536, 1))),
-        (short, 3, Some((1, b'e'))),
+        (long, 252, all.get(252..65788)),
+        (short, 3, Some(b"e".as_slice())),
     ];
     for (name, place, wanted) in calls {
         let read = inputs.read_at(name, place, &mut buffer).ok();
-        let told = read.map(|count| (count, buffer[0]));
-        assert_eq!(rt; told, wanted, "{name} at {place}");
+        let told = read.map(|count| &buffer[..count]);
+        assert!(rt; told == wanted, "{name} at {place}");
     }
     remove_files(&rt)
 }
