@@ -1,4 +1,4 @@
--- What the atoms and places that are gathered from a rule say.
+-- Public contracts speak by this: what the atoms and places that are gathered from a rule say.
 use Rattle.std.specs.Prelude.{ℕ, Bool, false, not, List, map, option_copied}
 use Rattle.std.specs.Str.{bytes_eq}
 use Rattle.rule_forms.specs.declared.form.Term.{Term}

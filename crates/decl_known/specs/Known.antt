@@ -1,4 +1,4 @@
--- Words that are looked up.
+-- For private functions alone: sets of entities, in which words are looked up.
 use Rattle.std.specs.Prelude.{◌≡◌, ℕ, true, List, [], slice_get, Option, Some, None}
 use Rattle.ground_types.specs.declared.program.Domain.{Domain}
 use Rattle.ground_types.specs.Sound.{is_distinct}

@@ -1,4 +1,4 @@
--- The layers of names.
+-- Public contracts speak by this: *Layer*, the layers of names.
 use Rattle.std.specs.Prelude.{◌≡◌, ℕ, suc, nat_le, List, [], ◌∷◌, length, map, slice_get}
 use Rattle.std.specs.Prelude.{slice_index_or, Option, Some, None, if◌then◌else◌}
 use Rattle.ground_types.specs.Sound.{is_input}

@@ -1,4 +1,5 @@
--- Which names occur in the bodies of which, and which names depend on themselves.
+-- Public contracts speak by this: which names occur in the bodies of which, and which depend on
+-- themselves.
 use Rattle.std.specs.Prelude.{◌≡◌, ◌<◌, ℕ, Bool, true, List, [], ◌∷◌, ◌++◌, map, flat_map}
 use Rattle.std.specs.Prelude.{slice_get, Some, if◌then◌else◌}
 use Rattle.std.specs.List.{list_any}

@@ -133,15 +133,6 @@ rule_fault domains names form = first_fault (
     ∷ (has_loose_variable form, refused.Loose)
     ∷ [])
 
--- the same, where its first four tests have passed
-abbrev pub word_fault : List Domain → List Name → PlainForm → Option Fault
-word_fault domains names form = first_fault (
-    (list_any (has_wrong_arity names) (mentions form), refused.Arity)
-    ∷ (list_any (has_undeclared_word domains names) (mentions form), refused.Undeclared)
-    ∷ (has_clash names form, refused.Clash)
-    ∷ (has_loose_variable form, refused.Loose)
-    ∷ [])
-
 -- the refusal of the first statement that breaks a rule
 abbrev pub rule_refusal : List Domain → List Name → List PlainStatement → Option DeclRefused
 rule_refusal domains names statements = first_refusal (λ before. rule_fault domains names) []

@@ -1,4 +1,4 @@
--- What is known of a description that was checked.
+-- Public contracts speak by this: what is known of a description that was checked.
 use Rattle.std.specs.Prelude.{◌≡◌, ◌<◌, ◌≤◌, ◌^◌, ℕ, nat_lt, nat_le, Bool, true, ◌&&◌, ◌==◌, List}
 use Rattle.std.specs.Prelude.{◌++◌, length, None}
 use Rattle.std.specs.List.{list_all}

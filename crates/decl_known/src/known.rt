@@ -19,9 +19,9 @@ pub struct Known<'a> {
     pub domains: &'a [Domain],
     /// The names that it was made of, in declared order.
     pub names: &'a [Name],
-    /// The words of the names, each at the place of its name.
+    // The words of the names, each at the place of its name.
     by_word: WordTable<'a>,
-    /// The entities of each domain, each at its place where no two of them are the same.
+    // The entities of each domain, each at its place where no two of them are the same.
     entities: Vec<WordTable<'a>>,
     ghost placed: { by_word ≡ name_words names.now },
     ghost entities_known: { AreEntities entities.items domains.now },

@@ -59,7 +59,7 @@ fn event_mention<'a>(event: &'a EventText) -> Mention<'a>
     }
 }
 
-// Adds the atom of a condition, which `\=` has not.
+// Adds the atom of a condition; `\=` has none.
 fn add_condition<'a>(body: &'a Body, into: &mut Vec<Mention<'a>>) -> Result<(), OutOfMemory>
     ensures { IfOk result (λ _. mentions_of into.new.items ≡ mentions_of into.old.items
         ++ body_mentions body.now) }
@@ -72,6 +72,7 @@ fn add_condition<'a>(body: &'a Body, into: &mut Vec<Mention<'a>>) -> Result<(), 
     Ok(())
 }
 
+// The atom of which a rule says when it happens or holds.
 fn head_of<'a>(form: &'a Form) -> Option<Mention<'a>>
     ensures { option_to_list (option_map mention_of result) ≡ head_of (plain_form form.now) }
 {
@@ -139,7 +140,8 @@ fn add_leaves_of<'a>(form: &'a Form, into: &mut Vec<Mention<'a>>) -> Result<(), 
 }
 
 /// Puts the atoms of a statement, in the order of the text, in place of what was there, and says
-/// how many of them stand before the leaves of its expression.
+/// how many of them stand before the leaves of its expression. The one error is want of memory; the
+/// list may then hold a part of them.
 pub fn gather<'a>(form: &'a Form, into: &mut Vec<Mention<'a>>) -> Result<usize, OutOfMemory>
     ensures all { IfOk result (λ _. mentions_of into.new.items ≡ mentions (plain_form form.now)) }
     ensures within { IfOk result (λ others. others ≤ length into.new.items) }

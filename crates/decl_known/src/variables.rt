@@ -61,7 +61,8 @@ fn add_places<'a>(
     }
 }
 
-/// Puts the places of all variables of some atoms in place of what was there.
+/// Puts the places of all variables of some atoms in place of what was there. The one error is want
+/// of memory; the list may then hold a part of them.
 pub fn gather_places<'a>(
     known: &Known,
     mentions: &[Mention<'a>],
@@ -79,7 +80,7 @@ pub fn gather_places<'a>(
 }
 
 /// The variables at all places of a statement's atoms, in the order of the text, each with the
-/// number of its place's domain.
+/// number of its place's domain. The one error is want of memory.
 pub fn places<'a>(
     alloc: Global,
     known: &Known,

@@ -41,7 +41,7 @@ simple on [true, true].|input up(u, u, u, u). -> Twice { line: 4 }
 initially(off=true).|simple on [true, true]. -> Twice { line: 5 }";
 
 // Behind the declarations of a lamp, on line 7.
-const LAMP_RULES: &str = "\
+const LAMP_CASES: &str = "\
 initiatedAt(on=true) :- happensAt(up).|terminatedAt(on=true) :- happensAt(down). -> accepted
 initiatedAt(off=true) :- happensAt(up). -> Undeclared { line: 7 }
 initiatedAt(on=false) :- happensAt(up). -> Undeclared { line: 7 }
@@ -50,7 +50,7 @@ initiatedAt(on=true) :- happensAt(on). -> WrongKind { line: 7 }
 initiatedAt(on=true) :- happensAt(up(X)). -> Arity { line: 7 }";
 
 // Behind a description with a domain, on line 7.
-const MEETING_RULES: &str = "\
+const MEETING_CASES: &str = "\
 initiatedAt(met(X, X)=true) :- happensAt(near(X, X)), X \\= Z. -> Loose { line: 7 }
 domain u [x].|input far(u).|\
     initiatedAt(met(X, X)=true) :- happensAt(near(X, X)), \
@@ -58,7 +58,7 @@ domain u [x].|input far(u).|\
 
 // Behind two domains and a name of each kind, on line 10. Where there are two faults in a
 // statement, the first test that fails decides, and else the first statement.
-const PORT_RULES: &str = "\
+const PORT_CASES: &str = "\
 initially(moored(s1, Q)=false). -> accepted
 initially(calm=false). -> Undeclared { line: 10 }
 initially(busy(q1)=true). -> WrongKind { line: 10 }
@@ -117,9 +117,9 @@ fn texts_are_refused_by_the_first_rule_that_they_break(rt: HostRuntime) -> Resul
     let tables = [
         ("", PLANS),
         (PLAN, DECLARATIONS),
-        (LAMP, LAMP_RULES),
-        (MEETING, MEETING_RULES),
-        (PORT, PORT_RULES),
+        (LAMP, LAMP_CASES),
+        (MEETING, MEETING_CASES),
+        (PORT, PORT_CASES),
     ];
     for (start, rows) in tables {
         let missed = missed(rt.alloc(), start, rows)?;

@@ -17,7 +17,8 @@ use Rattle.ground_types.specs.Words.{domain_words, name_words}
 use Rattle.domain_decl.specs.Declarations.{declaration_fault, declaration_refusal}
 use Rattle.decl_known.specs.Rules.{rule_fault, rule_refusal}
 use Rattle.decl_known.specs.Checked.{plain_checked}
-use Rattle.domain_decl.specs.Accepted.{accept, checked_with, checking, or_else, Answers, Tests}
+use Rattle.domain_decl.specs.Accepted.{accept, checked_with, checking, or_else, Answers}
+use Rattle.domain_decl.specs.Testing.{Tests}
 use Rattle.decl_known.specs.Sound.{IsSound, is_sound_domain, is_sound_name}
 use Rattle.std.specs.List.{list_all}
 use Rattle.word_table.proofs.WordLists.{is_distinct-front}

@@ -17,7 +17,7 @@ use Rattle.decl_known.specs.declared.checked.DeclRefused.{DeclRefused}
 use Rattle.decl_known.specs.declared.checked.DeclRefused.TheVariants as refused
 use Rattle.ground_types.specs.Words.{has, domain_words}
 use Rattle.decl_known.specs.Faults.{first_fault, first_refusal, refused_at}
-use Rattle.domain_decl.specs.Accepted.{Tests}
+use Rattle.domain_decl.specs.Testing.{Tests}
 use Rattle.word_table.proofs.WordLists.{has_put}
 use Rattle.domain_decl.proofs.Prefixes.{plain_next, refusal_next, without_fault, refused_first}
 use Rattle.domain_decl.specs.Contents.{domains_of}

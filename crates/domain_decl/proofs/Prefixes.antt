@@ -10,7 +10,7 @@ use Rattle.rule_forms.specs.Forms.{PlainStatement, PlainForm, plain, plain_form}
 use Rattle.decl_known.specs.declared.checked.DeclRefused.{DeclRefused}
 use Rattle.decl_known.specs.declared.checked.DeclRefused.TheVariants as refused
 use Rattle.decl_known.specs.Faults.{Fault, first_refusal, refused_at}
-use Rattle.domain_decl.specs.Accepted.{Tests}
+use Rattle.domain_decl.specs.Testing.{Tests}
 
 module _ (statements : List Statement) (i : ℕ) (s : Statement) (within : i < length statements)
     (at : s ≡ get_or statements i s) where

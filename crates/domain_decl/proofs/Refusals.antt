@@ -8,7 +8,7 @@ use Rattle.rule_forms.specs.Forms.{plain, plain_form}
 use Rattle.decl_known.specs.declared.checked.DeclRefused.{DeclRefused}
 use Rattle.decl_known.specs.Faults.{first_refusal, refused_at}
 use Rattle.decl_known.specs.Rules.{rule_fault, rule_refusal}
-use Rattle.domain_decl.specs.Accepted.{Tests}
+use Rattle.domain_decl.specs.Testing.{Tests}
 use Rattle.domain_decl.proofs.Prefixes.{refusal_next, without_fault, refused_first}
 
 module _ (domains : List Domain) (names : List Name) (statements : List Statement) (i : ℕ)

@@ -1,5 +1,5 @@
--- What a description declares, or the first rule that it breaks. "Accepted" means here as far as
--- its plan, its declarations and its rules go.
+-- Public contracts speak by this: what a description declares, or the first rule that it breaks.
+-- "Accepted" means here as far as its plan, its declarations and its rules go.
 use Rattle.std.specs.Prelude.{◌≡◌, List, map, Option, Some, None, Result, Ok, Err}
 use Rattle.ground_types.specs.declared.plan.Plan.{Plan}
 use Rattle.ground_types.specs.declared.program.Domain.{Domain}
@@ -53,9 +53,3 @@ abbrev pub Answers : Result Checked DeclRefused → Result PlainChecked DeclRefu
 Answers (Ok checked) given = given ≡ Ok (plain_checked checked)
 Answers (Err refused.OutOfMemory) given = Unit {0}
 Answers (Err refusal) given = given ≡ Err refusal
-
--- a test passed, or gave the refusal, unless memory ran out
-abbrev pub Tests : Result (Unit {0}) DeclRefused → Option DeclRefused → Type 0
-Tests (Ok passed) refusal = refusal ≡ None
-Tests (Err refused.OutOfMemory) refusal = Unit {0}
-Tests (Err given) refusal = refusal ≡ Some given

@@ -1,5 +1,5 @@
--- What a description declares: domains and names, in the order of their statements, and the
--- statements that define them.
+-- Public contracts speak by this: what a description declares, domains and names in the order of
+-- their statements, and the statements that define them.
 use Rattle.std.specs.Prelude.{ℕ, Bool, true, false, List, [], map, filter, filter_map, Option, Some}
 use Rattle.std.specs.Prelude.{None}
 use Rattle.ground_types.specs.declared.program.Domain.{Domain}

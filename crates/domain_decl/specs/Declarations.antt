@@ -1,4 +1,4 @@
--- The rules on declarations.
+-- Public contracts speak by this: the rules on declarations.
 use Rattle.std.specs.Prelude.{ℕ, nat_lt, nat_le, Bool, true, false, not, ◌||◌, ◌&&◌, List, [], ◌∷◌}
 use Rattle.std.specs.Prelude.{length, filter_map, count_by, Option, Some, None}
 use Rattle.std.specs.List.{list_any}

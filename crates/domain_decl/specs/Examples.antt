@@ -1,4 +1,5 @@
--- Small descriptions, computed: each equation holds by computation alone.
+-- No contract speaks by this: small descriptions, computed. Each equation holds by computation
+-- alone.
 use Rattle.std.specs.Prelude.{◌≡◌, ℕ, zero, suc, true, false, List, [], ◌∷◌, ◌++◌, codes, replicate}
 use Rattle.std.specs.Prelude.{Option, Some, None, Ok, Err, refl}
 use Rattle.std.specs.List.{list_all}

@@ -1,4 +1,4 @@
--- What is remembered of the numbers of all statements of one kind.
+-- For private functions alone: what is remembered of the numbers of all statements of one kind.
 use Rattle.std.specs.Prelude.{ℕ, List, [], ◌∷◌, Option, Some, None}
 use Rattle.domain_decl.specs.declared.plans.Kind.{Kind}
 use Rattle.domain_decl.specs.declared.plans.Kind.TheVariants as kind

@@ -9,5 +9,6 @@ pub mod Contents
 pub mod Declarations
 pub mod Passes
 pub mod Accepted
+pub mod Testing
 pub mod Loose
 pub mod Examples

@@ -1,4 +1,5 @@
--- The rules on declarations once more, by what is remembered of the statements before.
+-- For private functions alone: the rules on declarations, by what is remembered of the statements
+-- before.
 use Rattle.std.specs.Prelude.{ℕ, nat_lt, nat_le, Bool, false, not, ◌||◌, ◌&&◌, List, [], ◌∷◌}
 use Rattle.std.specs.Prelude.{length, Option, Some, None}
 use Rattle.std.specs.List.{list_any}

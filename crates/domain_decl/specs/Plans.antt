@@ -1,4 +1,4 @@
--- The plan of a description.
+-- Public contracts speak by this: the plan of a description.
 use Rattle.std.specs.Prelude.{ℕ, nat_le, Bool, ◌&&◌, List, [], ◌∷◌, filter_map, Option, Some, None}
 use Rattle.std.specs.Prelude.{if◌then◌else◌}
 use Rattle.ground_types.specs.declared.plan.Plan.{Plan}

@@ -12,7 +12,7 @@ use rule_forms::{Decl, Form, Statement};
 use std::alloc::Global;
 use word_table::WordTable;
 
-/// A copy of a list of words.
+// A copy of a list of words.
 fn copied(alloc: Global, words: &[Word]) -> Result<List<Word>, OutOfMemory>
     ensures { IfOk result (λ list. list ≡ words.now) }
 {
@@ -23,7 +23,7 @@ fn copied(alloc: Global, words: &[Word]) -> Result<List<Word>, OutOfMemory>
     Ok(List::of(list))
 }
 
-/// The domain that a statement declares.
+// The domain that a statement declares.
 fn domain_in(alloc: Global, form: &Form) -> Result<Option<Domain>, OutOfMemory>
     ensures { IfOk result (λ domain. domain ≡ domain_in (plain_form form.now)) }
 {
@@ -37,7 +37,7 @@ fn domain_in(alloc: Global, form: &Form) -> Result<Option<Domain>, OutOfMemory>
     }
 }
 
-/// The domains, in declared order.
+// The domains, in declared order.
 pub(crate) fn domains_of(
     alloc: Global,
     statements: &[Statement],
@@ -53,7 +53,7 @@ pub(crate) fn domains_of(
     Ok(List::of(domains))
 }
 
-/// The numbers of the domains of arguments.
+// The numbers of the domains of arguments.
 fn places(alloc: Global, domains: &WordTable<'_>, args: &[Word]) -> Result<List<u32>, OutOfMemory>
     requires { length domains.now < 2 ^ 32 }
     ensures { IfOk result (λ places. places ≡ filter_map (place_in domains.now) args.now) }
@@ -67,7 +67,7 @@ fn places(alloc: Global, domains: &WordTable<'_>, args: &[Word]) -> Result<List<
     Ok(List::of(places))
 }
 
-/// The name that a declaration gives.
+// The name that a declaration gives.
 fn declared(
     alloc: Global,
     domains: &WordTable<'_>,
@@ -89,7 +89,7 @@ fn declared(
     })
 }
 
-/// The name that a statement declares.
+// The name that a statement declares.
 fn name_in(
     alloc: Global,
     domains: &WordTable<'_>,
@@ -110,7 +110,7 @@ fn name_in(
     Ok(Some(name))
 }
 
-/// The names, in declared order, over these domains.
+// The names, in declared order, over these domains.
 pub(crate) fn names_of(
     alloc: Global,
     statements: &[Statement],
@@ -131,7 +131,7 @@ pub(crate) fn names_of(
     Ok(List::of(names))
 }
 
-/// Whether a statement defines a fluent or a derived event.
+// Whether a statement defines a fluent or a derived event.
 fn is_rule(form: &Form) -> bool
     ensures { result ≡ is_rule (plain_form form.now) }
 {
@@ -145,7 +145,7 @@ fn is_rule(form: &Form) -> bool
     )
 }
 
-/// Copies of the statements that define fluents and derived events.
+// Copies of the statements that define fluents and derived events.
 pub(crate) fn rules_of(
     alloc: Global,
     statements: &[Statement],

@@ -10,7 +10,7 @@ ghost use Rattle.domain_decl.specs.Declarations.{is_domain, declares, arguments_
 ghost use Rattle.domain_decl.specs.Declarations.{declaration_refusal};
 ghost use Rattle.domain_decl.specs.Passes.{too_many_behind, lacks_domain, twice_behind};
 ghost use Rattle.domain_decl.specs.Passes.{fault_behind};
-ghost use Rattle.domain_decl.specs.Accepted.{Tests};
+ghost use Rattle.domain_decl.specs.Testing.{Tests};
 
 use decl_known::DeclRefused;
 use rt_base::{OutOfMemory, Word};
@@ -24,7 +24,7 @@ fn is_domain(form: &Form) -> bool
     matches!(form, Form::Domain(_, _))
 }
 
-/// The word of the domain that a statement declares.
+// The word of the domain that a statement declares.
 fn domain_word(form: &Form) -> Option<&Word>
     ensures { option_map (λ word. word.now) result ≡ option_map (λ domain. domain.word)
         (domain_in (plain_form form.now)) }
@@ -35,7 +35,7 @@ fn domain_word(form: &Form) -> Option<&Word>
     }
 }
 
-/// The word that a statement declares.
+// The word that a statement declares.
 fn declares(form: &Form) -> Option<&Word>
     ensures { option_map (λ word. word.now) result ≡ declares (plain_form form.now) }
 {
@@ -47,7 +47,7 @@ fn declares(form: &Form) -> Option<&Word>
     }
 }
 
-/// The names of the domains of its arguments.
+// The names of the domains of its arguments.
 fn arguments(form: &Form) -> &[Word]
     ensures { result.now ≡ arguments_in (plain_form form.now) }
 {
@@ -58,7 +58,7 @@ fn arguments(form: &Form) -> &[Word]
     }
 }
 
-/// Its entities, or its values.
+// Its entities, or its values.
 fn members(form: &Form) -> &[Word]
     ensures { result.now ≡ members_in (plain_form form.now) }
 {
@@ -70,8 +70,8 @@ fn members(form: &Form) -> &[Word]
     }
 }
 
-/// Whether a declaration behind so many domains is too many or has too many of something.
-fn has_too_many(domains: usize, form: &Form) -> bool
+// Whether a declaration behind so many domains is too many or has too many of something.
+fn declares_too_many(domains: usize, form: &Form) -> bool
     ensures { result ≡ too_many_behind domains (plain_form form.now) }
 {
     let most = if is_domain(form) { 4096 } else { 64 };
@@ -81,7 +81,7 @@ fn has_too_many(domains: usize, form: &Form) -> bool
     most < members(form).len() || 3 < arguments(form).len()
 }
 
-/// Whether an argument is none of these domains.
+// Whether an argument is none of these domains.
 fn lacks_domain(domains: &WordTable<'_>, form: &Form) -> bool
     ensures { result ≡ lacks_domain domains.now (plain_form form.now) }
 {
@@ -93,7 +93,7 @@ fn lacks_domain(domains: &WordTable<'_>, form: &Form) -> bool
     false
 }
 
-/// Whether a word that is declared stands twice; else its word is one of those declared.
+// Whether a word that is declared stands twice; else its word is one of those declared.
 fn declares_twice<'a>(
     alloc: Global,
     declared: &mut WordTable<'a>,
@@ -112,8 +112,8 @@ fn declares_twice<'a>(
     Ok(!are_distinct(alloc, members(form))?)
 }
 
-/// Tests a declaration behind so many domains and these words; its word is then one of those
-/// declared.
+// Tests a declaration behind so many domains and these words; its word is then one of those
+// declared.
 fn test_declaration<'a>(
     alloc: Global,
     domains: &WordTable<'_>,
@@ -127,7 +127,7 @@ fn test_declaration<'a>(
         (declares (plain_form statement.now.form)) []) }
 {
     let line = statement.line;
-    if has_too_many(count, &statement.form) {
+    if declares_too_many(count, &statement.form) {
         return Err(DeclRefused::TooMany { line });
     }
     if lacks_domain(domains, &statement.form) {
@@ -139,7 +139,7 @@ fn test_declaration<'a>(
     Ok(())
 }
 
-/// The words of all domains.
+// The words of all domains.
 fn domain_set(alloc: Global, statements: &[Statement]) -> Result<WordTable<'_>, OutOfMemory>
     ensures { IfOk result (λ set. (word : List ℕ)
         → has set word ≡ has (domain_words (domains_of (map plain statements.now))) word) }
@@ -153,7 +153,7 @@ fn domain_set(alloc: Global, statements: &[Statement]) -> Result<WordTable<'_>, 
     Ok(set)
 }
 
-/// Tests the declarations, in the order of the text.
+// Tests the declarations, in the order of the text.
 pub(crate) fn test_declarations(alloc: Global, statements: &[Statement]) -> Result<(), DeclRefused>
     ensures { Tests result (declaration_refusal (map plain statements.now)) }
 {

@@ -8,7 +8,7 @@ ghost use Rattle.domain_decl.specs.Given.{number_in, given_by, with_number};
 use ground_types::Plan;
 use rule_forms::{Form, Statement};
 
-/// A statement of a number.
+// A statement of a number.
 #[derive(Clone, Copy, Debug, PartialEq, Eq)]
 pub(crate) enum Kind {
     Window,
@@ -17,7 +17,7 @@ pub(crate) enum Kind {
     Queries,
 }
 
-/// The numbers of all statements of one kind.
+// The numbers of all statements of one kind.
 #[derive(Clone, Copy, Debug, PartialEq, Eq)]
 pub(crate) enum Given {
     Nothing,
@@ -25,7 +25,7 @@ pub(crate) enum Given {
     More,
 }
 
-/// The number that a statement of this kind gives.
+// The number that a statement of this kind gives.
 fn number_in(kind: Kind, form: &Form) -> Option<u64>
     ensures { result ≡ number_in kind (plain_form form.now) }
 {
@@ -39,7 +39,7 @@ fn number_in(kind: Kind, form: &Form) -> Option<u64>
 }
 
 impl Given {
-    /// What is given with one more number, or without.
+    // What is given with one more number, or without.
     fn with(self, number: Option<u64>) -> Given
         ensures { result ≡ with_number self number }
     {
@@ -50,7 +50,7 @@ impl Given {
         }
     }
 
-    /// The only number.
+    // The only number.
     fn only(self) -> Option<u64>
         ensures { (ns : List ℕ) → self ≡ given_by ns → result ≡ only ns }
     {
@@ -60,7 +60,7 @@ impl Given {
         }
     }
 
-    /// The only number, or this where there is none.
+    // The only number, or this where there is none.
     fn only_or(self, default: u64) -> Option<u64>
         ensures { (ns : List ℕ) → self ≡ given_by ns → result ≡ only_or default ns }
     {
@@ -72,7 +72,7 @@ impl Given {
     }
 }
 
-/// The numbers of all statements of one kind.
+// The numbers of all statements of one kind.
 fn numbers(kind: Kind, statements: &[Statement]) -> Given
     ensures { result ≡ given_by (all_in (number_in kind) (map plain statements.now)) }
 {
@@ -83,7 +83,7 @@ fn numbers(kind: Kind, statements: &[Statement]) -> Given
     given
 }
 
-/// A plan of these numbers, where they are allowed.
+// A plan of these numbers, where they are allowed.
 fn allowed(window: u64, step: u64, from: u64, queries: u64) -> Option<Plan>
     ensures { result ≡ plan_by (Some window) (Some step) (Some from) (Some queries) }
 {
@@ -102,7 +102,7 @@ fn allowed(window: u64, step: u64, from: u64, queries: u64) -> Option<Plan>
     })
 }
 
-/// The plan that the statements give, if it is one.
+// The plan that the statements give, if it is one.
 pub(crate) fn plan_of(statements: &[Statement]) -> Option<Plan>
     ensures { result ≡ plan_of (map plain statements.now) }
 {

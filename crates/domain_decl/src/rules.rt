@@ -10,8 +10,8 @@ ghost use Rattle.decl_known.specs.Mentions.{fits, head_of, leaves_of, body_menti
 ghost use Rattle.decl_known.specs.Rules.{has_too_many, begins_with_trigger, lacks_trigger};
 ghost use Rattle.decl_known.specs.Rules.{names_undeclared, is_of_wrong_kind, has_wrong_arity};
 ghost use Rattle.decl_known.specs.Rules.{is_foreign, lacks_value, has_undeclared_word, places};
-ghost use Rattle.decl_known.specs.Rules.{rule_fault, rule_refusal, word_fault};
-ghost use Rattle.domain_decl.specs.Accepted.{Tests};
+ghost use Rattle.decl_known.specs.Rules.{rule_fault, rule_refusal};
+ghost use Rattle.domain_decl.specs.Testing.{Tests, word_fault};
 ghost use Rattle.decl_known.specs.Gathered.{role_of, mention_of, mentions_of, places_of};
 
 use crate::variables::{has_clash, has_loose_variable};
@@ -125,8 +125,7 @@ fn has_undeclared_word(known: &Known, mention: &Mention) -> bool
     }
 }
 
-// ---- whether a test fails at an atom
-
+// Whether one of some atoms has a name that is declared nowhere.
 fn any_undeclared(known: &Known, mentions: &[Mention]) -> bool
     ensures { result ≡ list_any (names_undeclared known.now.domains.now known.now.names.now)
         (mentions_of mentions.now) }
@@ -248,8 +247,8 @@ fn test_rule<'a>(
     test_parts(known, statement, atoms, others, variables)
 }
 
-/// Tests the statements that define fluents and derived events, in the order of the text, over what
-/// is declared.
+// Tests the statements that define fluents and derived events, in the order of the text, over what
+// is declared.
 pub(crate) fn test_rules(
     alloc: Global,
     statements: &[Statement],

@@ -29,7 +29,7 @@ fn clashes(one: &Place, places: &[Place]) -> bool
     places.iter().any(|other| clash(one, other))
 }
 
-/// Whether a variable stands at places of two domains.
+// Whether a variable stands at places of two domains.
 pub(crate) fn has_clash(places: &[Place]) -> bool
     ensures { result ≡ list_any (λ one. list_any (clash one) (places_of places.now))
         (places_of places.now) }
@@ -104,8 +104,8 @@ fn any_compared_loose(bodies: &[Body], mentions: &[Mention]) -> bool
     bodies.iter().any(|body| compares_loose(body, mentions))
 }
 
-/// Whether a variable of an expression is not in the head, or one of `\=` stands in no atom. The
-/// atoms are those of the statement, and this many of them stand before its leaves.
+// Whether a variable of an expression is not in the head, or one of `\=` stands in no atom. The
+// atoms are those of the statement, and this many of them stand before its leaves.
 #[tactic(auto, using(crate::proofs::Loose::loose_by_parts))]
 pub(crate) fn has_loose_variable(form: &Form, atoms: &[Mention], others: usize) -> bool
     requires within { others ≤ length atoms.now }

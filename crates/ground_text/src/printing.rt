@@ -98,7 +98,7 @@ fn put_inner(alloc: Global, out: &mut Vec<u8>, form: &Form) -> Result<(), OutOfM
     put_form(alloc, out, form)
 }
 
-// Adds the line of a unit's initial value, if it has one.
+// Adds the line of a unit's opening value, if it has one.
 fn put_initially(
     alloc: Global,
     out: &mut Vec<u8>,
@@ -263,7 +263,8 @@ fn put_listed(
     put_layers(alloc, out, program, instances)
 }
 
-// The same of what is declared, from which the instances are made.
+// Adds how much there is of what, and the lines of all layers, over instances that are made of what
+// is declared.
 fn put_program(
     alloc: Global,
     out: &mut Vec<u8>,

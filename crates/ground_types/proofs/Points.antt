@@ -80,12 +80,12 @@ not_below p u xs ys right same low =
     let both : true ≡ false = sym hit ∙ same p ∙ none in
     cc
 
-same_rest : (p : ℕ) (xs ys : List ℕ) → ArePointsFrom (p + 1) xs → ArePointsFrom (p + 1) ys →
+same_points_behind : (p : ℕ) (xs ys : List ℕ) → ArePointsFrom (p + 1) xs → ArePointsFrom (p + 1) ys →
     ((t : ℕ) → contains (p ∷ xs) t ≡ contains (p ∷ ys) t) → (t : ℕ) → (t ≤ p) ⊎ (p < t)
     → contains xs t ≡ contains ys t
-same_rest p xs ys left right same t (inl low) = contains_floor (p + 1) xs t left (omega arith)
+same_points_behind p xs ys left right same t (inl low) = contains_floor (p + 1) xs t left (omega arith)
     ∙ sym (contains_floor (p + 1) ys t right (omega arith))
-same_rest p xs ys left right same t (inr high) = sym (contains_miss p xs t (inr high)) ∙ same t
+same_points_behind p xs ys left right same t (inr high) = sym (contains_miss p xs t (inr high)) ∙ same t
     ∙ contains_miss p ys t (inr high)
 
 -- rising lists with the same points are the same
@@ -105,7 +105,7 @@ rising_points_unique floor (p ∷ xs) (u ∷ ys) left right same =
     let points : (t : ℕ) → contains (p ∷ xs) t ≡ contains (p ∷ ys) t =
     subst (λ (m : ℕ). (t : ℕ) → contains (p ∷ xs) t ≡ contains (m ∷ ys) t) (sym first) same in
     let rest : xs ≡ ys = rising_points_unique (p + 1) xs ys left.1 after
-    (λ t. same_rest p xs ys left.1 after points t (le_or_above t p)) in
+    (λ t. same_points_behind p xs ys left.1 after points t (le_or_above t p)) in
     cc
 
 pub points_unique : (test : ℕ → Bool) (w q : ℕ) (one two : List ℕ) → ArePoints test w q one

@@ -1,4 +1,4 @@
--- Public contracts speak by this: *Meaning without windows*, what a history means over all points
+-- No contract speaks by this yet: *Meaning without windows*, what a history means over all points
 -- after the first border.
 use Rattle.std.specs.Prelude.{ℕ, nat_lt, Bool, false, ◌&&◌, ◌==◌, List, find, reverse}
 use Rattle.ground_types.specs.Truth.{Table}

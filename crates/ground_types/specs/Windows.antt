@@ -1,6 +1,6 @@
 -- Public contracts speak by this: *Windows*, the window (Q - WM, Q] of RTEC, numbered by query from
 -- 0 on.
-use Rattle.std.specs.Prelude.{ℕ, ◌+◌, ◌*◌, ◌≤◌, ◌<◌}
+use Rattle.std.specs.Prelude.{ℕ, ◌+◌, ◌*◌, ◌≤◌}
 use Rattle.ground_types.specs.declared.plan.Plan.{Plan}
 
 -- w_k, the border before the first event point of query k
@@ -10,15 +10,6 @@ left plan k = plan.from + k * plan.step
 -- Q_k, the last event point of query k
 abbrev pub right : Plan → ℕ → ℕ
 right plan k = left plan k + plan.window
-
--- the points of query k at which events count
-abbrev pub IsEventPoint : Plan → ℕ → ℕ → Type 0
-IsEventPoint plan k t = (left plan k < t) × (t ≤ right plan k)
-
--- the points of query k at which fluents have a value: one more, since what happens at t shows at t
--- + 1
-abbrev pub IsValuePoint : Plan → ℕ → ℕ → Type 0
-IsValuePoint plan k t = (left plan k < t) × (t ≤ right plan k + 1)
 
 -- Windows overlap or touch; a window is at most 1,000,000,000,000 long, there are at most 1,024
 -- queries, and the left border after the last query is at most 5,024,000,000,000,000.

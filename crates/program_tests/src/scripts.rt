@@ -29,7 +29,12 @@ fn script_text(alloc: Global, script: &Script) -> Result<String, AllocError> {
 }
 
 // The script of a text, or why there is none.
-fn told(alloc: Global, program: &Program, shape: Shape, text: &[u8]) -> Result<String, AllocError>
+fn commands_told(
+    alloc: Global,
+    program: &Program,
+    shape: Shape,
+    text: &[u8],
+) -> Result<String, AllocError>
     requires sound { IsSound program.now }
     requires shape { IsShape shape }
 {
@@ -86,7 +91,7 @@ fn records_are_commands(rt: HostRuntime) -> Result<(), Fail> {
         (Shape::Reader, "ask,count", "0 ignored\n1 Ask(Count)"),
     ];
     for (shape, text, wanted) in rows {
-        let found = told(rt.alloc(), &program, shape, text.as_bytes())?;
+        let found = commands_told(rt.alloc(), &program, shape, text.as_bytes())?;
         assert_eq!(rt; found.as_str(), wanted);
     }
     Ok(())
@@ -113,7 +118,7 @@ add,2,8,\xFF\nadd,2,9,\"a\nb\"\nseal";
         ),
     ];
     for (text, wanted) in rows {
-        let found = told(rt.alloc(), &program, Shape::Merged, text)?;
+        let found = commands_told(rt.alloc(), &program, Shape::Merged, text)?;
         assert_eq!(rt; found.as_str(), wanted);
     }
     Ok(())

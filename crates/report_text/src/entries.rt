@@ -25,8 +25,8 @@ fn act_word(act: Act) -> &'static str
     }
 }
 
-/// The word of a reply.
-pub fn reply_word(reply: Reply) -> &'static str
+// The word of a reply.
+pub(crate) fn reply_word(reply: Reply) -> &'static str
     ensures { result.now ≡ reply_word reply }
 {
     match reply {

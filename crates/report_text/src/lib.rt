@@ -1,6 +1,6 @@
 //! The text of reports: the lines of entries, the block of a query, and the last three lines. Its
-//! promise: each call adds exactly the text of its definition, which stands in *report text*, or a
-//! part of it where memory runs out. It stands on `text_pieces` for atoms, on `ground_names` for
+//! promise: each call that succeeds adds exactly its part of the *report text*; where memory runs out
+//! it may leave a part of that. It stands on `text_pieces` for atoms, on `ground_names` for
 //! the words of events, and on `delay_revise` for what is recognised.
 #![tactic(auto)]
 

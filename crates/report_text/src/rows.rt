@@ -150,8 +150,8 @@ fn put_unit(
     }
 }
 
-/// Adds the lines of the rows that are not empty, unit by unit.
-pub fn put_rows(
+// Adds the lines of the rows that are not empty, unit by unit.
+pub(crate) fn put_rows(
     out: &mut Vec<u8>,
     program: &Program,
     q: Point,

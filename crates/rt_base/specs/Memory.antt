@@ -18,8 +18,8 @@ bytes_of [] name = None
 bytes_of (file ∷ rest) name = if bytes_eq file.0 name then Some file.1.items else bytes_of rest name
 
 -- one more, where the greatest u64 is not reached
-abbrev pub counted : ℕ → ℕ
-counted n = min (n + 1) (2 ^ 64 - 1)
+abbrev pub one_more : ℕ → ℕ
+one_more n = min (n + 1) (2 ^ 64 - 1)
 
 -- the call is one that fails
 abbrev pub is_chosen : List ℕ → ℕ → Bool
@@ -32,9 +32,9 @@ read_fails held name = is_chosen held.failing held.calls || is_none (bytes_of he
 -- after a read, which may have failed
 abbrev pub after_read : Bool → FilesInMemory → FilesInMemory
 after_read fails held = record held {
-  calls = counted held.calls;
+  calls = one_more held.calls;
   faults = if fails
-      then counted held.faults else held.faults;
+      then one_more held.faults else held.faults;
 }
 
 -- the bytes taken, the most that one call takes, the room in all, the calls that fail, how many
@@ -64,7 +64,7 @@ taken_of sink bytes = min (min sink.piece (room_left sink)) (length bytes)
 abbrev pub after_write : Bool → List ℕ → SinkInMemory → SinkInMemory
 after_write fails bytes sink = record sink {
   bytes = bytes;
-  calls = counted sink.calls;
+  calls = one_more sink.calls;
   faults =
-      if fails then counted sink.faults else sink.faults;
+      if fails then one_more sink.faults else sink.faults;
 }

@@ -39,7 +39,7 @@ fn last_entry(history: &[Entry], event: EventId, at: Point) -> Option<&Entry>
 }
 
 // Whether the entry, if there is one, is an add.
-fn is_add(entry: Option<&Entry>) -> bool
+fn ends_with_add(entry: Option<&Entry>) -> bool
     ensures { result ≡ is_add (option_copied entry.entry) }
 {
     match entry {
@@ -52,7 +52,7 @@ fn is_add(entry: Option<&Entry>) -> bool
 fn does_stand(history: &[Entry], event: EventId, at: Point) -> bool
     ensures { result ≡ stands history.now event at }
 {
-    is_add(last_entry(history, event, at))
+    ends_with_add(last_entry(history, event, at))
 }
 
 // The reply to an add or a revoke after a history of at most as many seals as queries.

@@ -38,9 +38,9 @@ abbrev of_letter : Class → Bool
 of_letter class.Letter = true
 of_letter _ = false
 
-letter_class : (b : ℕ) → is_letter b ≡ true → class_of b ≡ class.Letter
+is_letter_class : (b : ℕ) → is_letter b ≡ true → class_of b ≡ class.Letter
 unfolding class_of
-letter_class b h = rw h refl
+is_letter_class b h = rw h refl
 
 no_letter_class : (b : ℕ) → is_letter b ≡ false → of_letter (class_of b) ≡ false
 unfolding class_of
@@ -61,7 +61,7 @@ word_ends line [] (b ∷ bs) h ends = begins_anew (class_of b) line b bs (no_let
 word_ends line (b ∷ w) rest h ends =
     let p = and_parts (is_letter b) (list_all is_letter w) h in
     ap (λ k. at_byte k line true b (w ++ rest) (λ at mode. cut at mode (w ++ rest)))
-    (letter_class b p.0) ∙ word_ends line w rest p.1 ends
+    (is_letter_class b p.0) ∙ word_ends line w rest p.1 ends
 
 one_more : (n b : ℕ) (bs : List ℕ) → take (1 + n) (b ∷ bs) ≡ b ∷ take n bs
 one_more n b bs = let e : 1 + n ≡ suc n = omega arith in rw e refl
@@ -82,7 +82,7 @@ word_cut line [] rest h ends = absurd (omega (arith, h.1))
 word_cut line (b ∷ w) rest h ends =
     let p = and_parts (is_letter b) (list_all is_letter w) h.0 in
     ap (λ k. at_byte k line false b (w ++ rest) (λ at mode. cut at mode (w ++ rest)))
-    (letter_class b p.0)
+    (is_letter_class b p.0)
     ∙ ap (λ word. put line (Said (Word word)) (cut line (Text true) (w ++ rest)))
     (takes_word (b ∷ w) rest h.0 ends)
     ∙ ap (put line (Said (Word (b ∷ w)))) (word_ends line w rest p.1 ends)

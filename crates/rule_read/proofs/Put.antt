@@ -14,12 +14,12 @@ pub put_one : (before : List Code) (t : Code) → tokens (before ++ t ∷ []) �
 put_one before t = map-append token before (t ∷ [])
 
 -- one member more
-commas_more : (xs : List (List Token)) (x : List Token) → commas (xs ++ x ∷ []) ≡ commas xs
+list_with_one_more : (xs : List (List Token)) (x : List Token) → commas (xs ++ x ∷ []) ≡ commas xs
     ++ (comma_at (length xs) ++ x)
-commas_more [] x = refl
-commas_more (y ∷ []) x = refl
-commas_more (y ∷ z ∷ zs) x =
-    ap (λ (t : List Token). y ++ (Sign Comma ∷ t)) (commas_more (z ∷ zs) x)
+list_with_one_more [] x = refl
+list_with_one_more (y ∷ []) x = refl
+list_with_one_more (y ∷ z ∷ zs) x =
+    ap (λ (t : List Token). y ++ (Sign Comma ∷ t)) (list_with_one_more (z ∷ zs) x)
     ∙ sym (append_assoc y (Sign Comma ∷ commas (z ∷ zs)) (Sign Comma ∷ x))
 
 pub next_member : {A : Type 0} (toks : A → List Token) (init t0 t1 t2 : List Token) (xs : List A)
@@ -34,6 +34,6 @@ next_member toks init t0 t1 t2 xs i d lt e2 e1 e0 =
     ∙ append_assoc init (commas (map toks (take i xs))) (comma_at i ++ toks (get_or xs i d))
     ∙ ap (λ (t : List Token). init ++ t)
     (ap (λ n. commas (map toks (take i xs)) ++ (comma_at n ++ toks (get_or xs i d))) (sym count)
-    ∙ sym (commas_more (map toks (take i xs)) (toks (get_or xs i d)))
+    ∙ sym (list_with_one_more (map toks (take i xs)) (toks (get_or xs i d)))
     ∙ ap commas (sym (map-append toks (take i xs) (get_or xs i d ∷ [])))
     ∙ ap (λ ys. commas (map toks ys)) (sym (take_more xs i d lt)))

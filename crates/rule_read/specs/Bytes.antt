@@ -1,4 +1,4 @@
--- What each byte is for, outside comments.
+-- Public contracts speak by this: what each byte is for, outside comments.
 use Rattle.std.specs.Prelude.{ℕ, ◌||◌, ◌==◌, if◌then◌else◌}
 use Rattle.rt_base.specs.Kinds.{is_letter}
 use Rattle.rule_read.specs.declared.token.Class.{Class}

@@ -1,5 +1,5 @@
--- The canonical text: one statement a line, and which two neighbouring tokens have a space between
--- them.
+-- Public contracts speak by this: the canonical text, one statement a line, and which two
+-- neighbouring tokens have a space between them.
 use Rattle.std.specs.Prelude.{ℕ, Bool, true, false, ◌||◌, ◌&&◌, List, [], ◌∷◌, ◌++◌, flat_map, ◌+◌}
 use Rattle.std.specs.Prelude.{if◌then◌else◌}
 use Rattle.rule_read.specs.declared.token.Mark.{Mark}

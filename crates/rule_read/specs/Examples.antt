@@ -1,4 +1,4 @@
--- Small texts, computed: each equation holds by computation alone.
+-- No contract speaks by this: small texts, computed. Each equation holds by computation alone.
 use Rattle.std.specs.Prelude.{◌≡◌, ℕ, true, false, List, [], ◌∷◌, ◌++◌, map, codes, refl}
 use Rattle.std.specs.Fmt.{digits}
 use Rattle.rt_base.specs.Kinds.{reserved}

@@ -1,4 +1,4 @@
--- When a text spells a list of statements.
+-- Public contracts speak by this: when a text spells a list of statements.
 use Rattle.std.specs.Prelude.{◌≡◌, ℕ, true, List, [], ◌∷◌, ◌++◌, None}
 use Rattle.rule_read.specs.declared.keyword.Keyword.{Keyword}
 use Rattle.rule_read.specs.declared.keyword.Keyword.TheVariants as key

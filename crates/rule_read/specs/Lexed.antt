@@ -1,4 +1,4 @@
--- What the lexer says of the pieces that it passes.
+-- For private functions alone: what the lexer says of the pieces that it passes.
 use Rattle.std.specs.Prelude.{◌≡◌, ℕ, ◌<◌, true, List, [], ◌∷◌, Option, Some, None, map}
 use Rattle.rule_read.specs.declared.token.Token.{Token as Code}
 use Rattle.rule_read.specs.declared.token.Token.TheVariants as code

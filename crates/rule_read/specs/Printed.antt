@@ -1,4 +1,4 @@
--- What the parts of the printer put.
+-- For private functions alone: what the parts of the printer put.
 use Rattle.std.specs.Prelude.{ℕ, zero, suc, List, [], ◌∷◌, if◌then◌else◌}
 use Rattle.rule_forms.specs.declared.form.Tree.{Tree}
 use Rattle.rule_read.specs.declared.token.Mark.TheVariants.{Comma}

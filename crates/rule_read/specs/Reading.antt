@@ -1,4 +1,5 @@
--- Reading tokens from left to right: the value at the front, and the tokens behind it.
+-- Public contracts speak by this: reading tokens from left to right, the value at the front and
+-- the tokens behind it.
 use Rattle.std.specs.Prelude.{◌≡◌, ℕ, zero, suc, Bool, true, false, ◌==◌, List, [], ◌∷◌, ◌++◌}
 use Rattle.std.specs.Prelude.{length, Option, Some, None, Result, Ok, Err, if◌then◌else◌}
 use Rattle.rule_read.specs.declared.token.Mark.{Mark}

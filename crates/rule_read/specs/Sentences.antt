@@ -1,4 +1,4 @@
--- Statements as tokens: a statement is the tokens up to the next dot, and the dot.
+-- Public contracts speak by this: statements as tokens, up to and with the next dot.
 use Rattle.std.specs.Prelude.{ℕ, Bool, true, false, List, [], ◌∷◌, ◌++◌, Option, Some, None}
 use Rattle.rule_read.specs.Tokens.{Token, Said, Dot, Bad, Placed, pieces}
 

@@ -1,4 +1,4 @@
--- What reading the statements of a text that is not too long gives.
+-- For private functions alone: what reading the statements of a text that is not too long gives.
 use Rattle.std.specs.Prelude.{◌≡◌, ℕ, ◌≤◌, List, length, map, None, Some, Result, Ok, Err}
 use Rattle.std.specs.Global.{Vec}
 use Rattle.rule_forms.specs.declared.syntax.Statement.{Statement}

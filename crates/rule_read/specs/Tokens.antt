@@ -1,4 +1,4 @@
--- The tokens of a text with their lines, by cases on its bytes.
+-- Public contracts speak by this: the tokens of a text with their lines, by cases on its bytes.
 use Rattle.std.specs.Prelude.{ℕ, ◌+◌, ◌==◌, Bool, true, false, List, [], ◌∷◌, take_while}
 use Rattle.std.specs.Prelude.{if◌then◌else◌}
 use Rattle.rt_base.specs.Kinds.{is_letter}

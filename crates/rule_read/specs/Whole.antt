@@ -1,4 +1,4 @@
--- What a whole text reads as.
+-- Public contracts speak by this: what a whole text reads as.
 use Rattle.std.specs.Prelude.{◌≡◌, ◌≤◌, ◌<◌, ℕ, nat_lt, List, [], ◌∷◌, ◌++◌, length, map, Option}
 use Rattle.std.specs.Prelude.{Some, None, Result, Ok, Err, if◌then◌else◌}
 use Rattle.rule_forms.specs.declared.syntax.Syntax.{Syntax}

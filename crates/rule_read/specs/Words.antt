@@ -1,4 +1,4 @@
--- Reserved words, variables and numbers.
+-- Public contracts speak by this: reserved words, variables and numbers.
 use Rattle.std.specs.Prelude.{ℕ, ◌+◌, ◌*◌, ◌-◌, Bool, ◌&&◌, nat_le, nat_lt, List, [], ◌∷◌, length}
 use Rattle.std.specs.Prelude.{Option, codes, find}
 use Rattle.std.specs.Str.{bytes_eq}

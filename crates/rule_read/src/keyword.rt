@@ -8,7 +8,7 @@ ghost use Rattle.rule_forms.specs.Sound.{is_variable};
 use crate::token::is_letter;
 use rt_base::is_name;
 
-/// A reserved word.
+// A reserved word.
 #[derive(Clone, Copy, Debug, PartialEq, Eq)]
 pub(crate) enum Keyword {
     Window,
@@ -60,7 +60,7 @@ const KEYWORDS: [Keyword; 22] = [
     Keyword::Expires,
 ];
 
-/// How a reserved word is written.
+// How a reserved word is written.
 pub(crate) fn text_of(keyword: Keyword) -> &'static [u8]
     ensures { result.now ≡ spelled keyword }
 {
@@ -90,7 +90,7 @@ pub(crate) fn text_of(keyword: Keyword) -> &'static [u8]
     }
 }
 
-/// The reserved word that a word is.
+// The reserved word that a word is.
 #[tactic(auto, unfolding(crate::specs::Words::keyword_of))]
 pub(crate) fn reserved(word: &[u8]) -> Option<Keyword>
     ensures { result ≡ keyword_of word.now }
@@ -98,12 +98,12 @@ pub(crate) fn reserved(word: &[u8]) -> Option<Keyword>
     KEYWORDS.iter().copied().find(|k| text_of(*k) == word)
 }
 
-/// What a word is to be.
+// What a word is to be.
 #[derive(Clone, Copy, Debug, PartialEq, Eq)]
 pub(crate) enum Kind {
-    /// The name of a domain, an event or a fluent.
+    // The name of a domain, an event or a fluent.
     Name,
-    /// An entity or a value.
+    // An entity or a value.
     Constant,
     Variable,
 }
@@ -137,7 +137,7 @@ fn is_variable(word: &[u8]) -> bool
 }
 
 impl Kind {
-    /// The word is of this kind.
+    // The word is of this kind.
     #[tactic(auto, using(crate::proofs::Letters::letters_of))]
     pub(crate) fn admits(self, word: &[u8]) -> bool
         ensures kind { result ≡ is_of self word.now }

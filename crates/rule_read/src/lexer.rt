@@ -10,7 +10,7 @@ ghost use Rattle.rule_read.specs.Lexed.{ShorterStep, ShorterAt};
 use crate::token::{Class, Ending, Lexeme, Mark, Token, class_at, is_letter};
 use std::alloc::AllocError;
 
-/// A place in a text.
+// A place in a text.
 #[derive(Drop)]
 pub(crate) struct Lexer<'a> {
     pub(crate) rest: &'a [u8],
@@ -18,7 +18,7 @@ pub(crate) struct Lexer<'a> {
     ghost few: { line + length rest.now < 2 ^ 32 },
 }
 
-/// How many letters stand at the front.
+// How many letters stand at the front.
 #[tactic(auto, using(crate::proofs::Runs::letters_within))]
 fn letters(bytes: &[u8]) -> usize
     ensures count { result ≡ prefix_len is_letter bytes.now }
@@ -27,7 +27,7 @@ fn letters(bytes: &[u8]) -> usize
     bytes.iter().take_while(|b| is_letter(**b)).count()
 }
 
-/// How many bytes stand before the end of the line.
+// How many bytes stand before the end of the line.
 #[tactic(auto, using(crate::proofs::Runs::in_comment_within))]
 fn to_line_end(bytes: &[u8]) -> usize
     ensures count { result ≡ prefix_len (λ b. not (b == 10)) bytes.now }
@@ -36,7 +36,7 @@ fn to_line_end(bytes: &[u8]) -> usize
     bytes.iter().take_while(|b| **b != b'\n').count()
 }
 
-/// The line of a statement's first token: the new one where there is none yet.
+// The line of a statement's first token: the new one where there is none yet.
 fn first_line(found: &[Token<'_>], old: u32, new: u32) -> u32
     ensures { result ≡ line_then (tokens found.now) old new }
 {
@@ -46,7 +46,7 @@ fn first_line(found: &[Token<'_>], old: u32, new: u32) -> u32
     }
 }
 
-/// What stands behind a comment.
+// What stands behind a comment.
 #[tactic(auto, using(crate::proofs::Runs::comment_passes))]
 fn behind_comment(bytes: &[u8]) -> &[u8]
     ensures shorter { length result.now ≤ length bytes.now }
@@ -57,7 +57,7 @@ fn behind_comment(bytes: &[u8]) -> &[u8]
 }
 
 impl<'a> Lexer<'a> {
-    /// Passes over a mark.
+    // Passes over a mark.
     fn mark(&mut self, rest: &'a [u8], mark: Mark) -> Option<Lexeme<'a>>
         requires { length rest.now < length self.old.rest.now }
         ensures line { self.new.line ≡ self.old.line }
@@ -68,7 +68,7 @@ impl<'a> Lexer<'a> {
         Some(Lexeme::Token(Token::Mark(mark)))
     }
 
-    /// The next piece, or None behind a gap or a comment.
+    // The next piece, or None behind a gap or a comment.
     #[tactic(auto, using(crate::proofs::Runs::word_is_said, crate::proofs::Runs::word_starts), unfolding(crate::specs::Tokens::cut))]
     fn step(&mut self) -> Option<Lexeme<'a>>
         ensures shorter { ShorterStep result (length self.old.rest.now) (length self.new.rest.now) }
@@ -125,7 +125,7 @@ impl<'a> Lexer<'a> {
         }
     }
 
-    /// The next piece.
+    // The next piece.
     #[tactic(auto, using(crate::proofs::Sentences::shorter_still))]
     pub(crate) fn piece(&mut self) -> Lexeme<'a>
         ensures shorter { Shorter result (length self.old.rest.now) (length self.new.rest.now) }
@@ -139,8 +139,8 @@ impl<'a> Lexer<'a> {
         }
     }
 
-    /// The tokens of the next statement, how it ends, and the line of its first token, or of the
-    /// byte where it is Bad.
+    // The tokens of the next statement, how it ends, and the line of its first token, or of the
+    // byte where it is Bad.
     #[tactic(auto, using(crate::proofs::Sentences::one_more_token), unfolding(crate::specs::Sentences::sentences, crate::specs::Sentences::first_bad))]
     pub(crate) fn statement(
         &mut self,
@@ -165,7 +165,7 @@ impl<'a> Lexer<'a> {
         }
     }
 
-    /// The line of the first byte from here on that may not stand there.
+    // The line of the first byte from here on that may not stand there.
     #[tactic(auto, unfolding(crate::specs::Sentences::first_bad))]
     pub(crate) fn bad(&mut self) -> Option<u32>
         ensures { result ≡ first_bad (pieces self.old.line self.old.rest.now) }

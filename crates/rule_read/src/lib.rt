@@ -2,7 +2,8 @@
 //! promise: `read` gives exactly the statements that the text spells, each with its line, and
 //! refuses exactly where the text is too long, a byte is not permitted or a statement has no form
 //! (want of memory aside); `print` gives the one canonical text, which reads as the same forms
-//! where it is at most 1,048,576 bytes long. A text has one reading. It stands on `rt_base` alone.
+//! where it is at most 1,048,576 bytes long. A text has one reading. It stands on
+//! `rule_forms`, whose names it gives again, and on `rt_base`.
 #![tactic(auto)]
 
 mod keyword;

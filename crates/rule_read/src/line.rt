@@ -57,7 +57,7 @@ fn is_close(mark: Mark) -> bool
     matches!(mark, Mark::Close)
 }
 
-/// Whether a space stands between two neighbours.
+// Whether a space stands between two neighbours.
 fn space_between(one: Token<'_>, other: Token<'_>) -> bool
     ensures { result ≡ space_between (token one.entry) (token other.entry) }
 {
@@ -71,7 +71,7 @@ fn space_between(one: Token<'_>, other: Token<'_>) -> bool
     }
 }
 
-/// The space between a token and those behind it.
+// The space between a token and those behind it.
 fn space_behind(one: Token<'_>, others: &[Token<'_>]) -> &'static [u8]
     ensures { result.now ≡ space_behind (token one.entry) (tokens others.now) }
 {
@@ -81,7 +81,7 @@ fn space_behind(one: Token<'_>, others: &[Token<'_>]) -> &'static [u8]
     }
 }
 
-/// A token and the space behind it.
+// A token and the space behind it.
 fn put_token(out: &mut Vec<u8>, one: Token<'_>, others: &[Token<'_>]) -> Result<(), OutOfMemory>
     ensures { OnOk result (out.new.items ≡ out.old.items ++ (token_bytes (token one.entry)
         ++ space_behind (token one.entry) (tokens others.now))) }
@@ -91,7 +91,7 @@ fn put_token(out: &mut Vec<u8>, one: Token<'_>, others: &[Token<'_>]) -> Result<
     Ok(())
 }
 
-/// The tokens of a statement, its dot and the end of the line.
+// The tokens of a statement, its dot and the end of the line.
 pub(crate) fn put_line(out: &mut Vec<u8>, line: &[Token<'_>]) -> Result<(), OutOfMemory>
     ensures { OnOk result (out.new.items ≡ out.old.items ++ line_of (tokens line.now)) }
 {

@@ -38,7 +38,7 @@ pub(crate) fn put_key<'a>(out: &mut Vec<Token<'a>>, key: Keyword) -> Result<(), 
     Ok(())
 }
 
-/// A comma where a member stands before.
+// A comma where a member stands before.
 pub(crate) fn put_comma<'a>(out: &mut Vec<Token<'a>>, turn: usize) -> Result<(), OutOfMemory>
     ensures { OnOk result (tokens out.new.items ≡ tokens out.old.items ++ comma_at turn) }
 {
@@ -48,7 +48,7 @@ pub(crate) fn put_comma<'a>(out: &mut Vec<Token<'a>>, turn: usize) -> Result<(),
     put_mark(out, Mark::Comma)
 }
 
-/// Words with commas between them.
+// Words with commas between them.
 fn put_words<'a>(out: &mut Vec<Token<'a>>, words: &'a [Word]) -> Result<(), OutOfMemory>
     ensures { OnOk result (tokens out.new.items ≡ tokens out.old.items ++ commas
         (map word_tokens words.now)) }
@@ -60,7 +60,7 @@ fn put_words<'a>(out: &mut Vec<Token<'a>>, words: &'a [Word]) -> Result<(), OutO
     Ok(())
 }
 
-/// Words in brackets.
+// Words in brackets.
 pub(crate) fn put_row<'a>(
     out: &mut Vec<Token<'a>>,
     words: &'a List<Word>,
@@ -73,7 +73,7 @@ pub(crate) fn put_row<'a>(
     put_mark(out, Mark::CloseList)
 }
 
-/// Words in parentheses, which are left out where there are none.
+// Words in parentheses, which are left out where there are none.
 fn put_domains<'a>(out: &mut Vec<Token<'a>>, words: &'a [Word]) -> Result<(), OutOfMemory>
     ensures { OnOk result (tokens out.new.items ≡ tokens out.old.items ++ arguments
         (map word_tokens words.now)) }
@@ -102,7 +102,7 @@ fn put_term<'a>(out: &mut Vec<Token<'a>>, term: &'a Term) -> Result<(), OutOfMem
     }
 }
 
-/// Terms with commas between them.
+// Terms with commas between them.
 fn put_terms<'a>(out: &mut Vec<Token<'a>>, terms: &'a [Term]) -> Result<(), OutOfMemory>
     ensures { OnOk result (tokens out.new.items ≡ tokens out.old.items ++ commas
         (map term_tokens terms.now)) }
@@ -114,7 +114,7 @@ fn put_terms<'a>(out: &mut Vec<Token<'a>>, terms: &'a [Term]) -> Result<(), OutO
     Ok(())
 }
 
-/// Terms in parentheses, which are left out where there are none.
+// Terms in parentheses, which are left out where there are none.
 fn put_arguments<'a>(out: &mut Vec<Token<'a>>, terms: &'a [Term]) -> Result<(), OutOfMemory>
     ensures { OnOk result (tokens out.new.items ≡ tokens out.old.items ++ arguments
         (map term_tokens terms.now)) }
@@ -142,7 +142,7 @@ pub(crate) fn put_fv<'a>(out: &mut Vec<Token<'a>>, fv: &'a Fv) -> Result<(), Out
     put_word(out, &fv.value)
 }
 
-/// A fluent-value in parentheses.
+// A fluent-value in parentheses.
 pub(crate) fn put_held<'a>(out: &mut Vec<Token<'a>>, fv: &'a Fv) -> Result<(), OutOfMemory>
     ensures { OnOk result (tokens out.new.items ≡ tokens out.old.items ++ in_parentheses
         (fv_tokens fv.now)) }
@@ -152,7 +152,7 @@ pub(crate) fn put_held<'a>(out: &mut Vec<Token<'a>>, fv: &'a Fv) -> Result<(), O
     put_mark(out, Mark::Close)
 }
 
-/// An atom in parentheses.
+// An atom in parentheses.
 pub(crate) fn put_head<'a>(out: &mut Vec<Token<'a>>, atom: &'a Atom) -> Result<(), OutOfMemory>
     ensures { OnOk result (tokens out.new.items ≡ tokens out.old.items ++ in_parentheses
         (atom_tokens atom.now)) }
@@ -237,7 +237,7 @@ fn put_body<'a>(out: &mut Vec<Token<'a>>, body: &'a Body) -> Result<(), OutOfMem
     }
 }
 
-/// Conditions with commas between them.
+// Conditions with commas between them.
 pub(crate) fn put_bodies<'a>(
     out: &mut Vec<Token<'a>>,
     bodies: &'a [Body],

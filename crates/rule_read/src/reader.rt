@@ -14,7 +14,7 @@ use rt_base::{List, Word, word_of};
 use rule_forms::{Atom, Body, Decl, EventText, Fv, Term};
 use std::alloc::Global;
 
-/// What is left of a statement.
+// What is left of a statement.
 #[derive(Drop)]
 pub(crate) struct Reader<'a> {
     pub(crate) alloc: Global,
@@ -22,7 +22,7 @@ pub(crate) struct Reader<'a> {
 }
 
 impl<'a> Reader<'a> {
-    /// The mark is in front.
+    // The mark is in front.
     pub(crate) fn has(&self, mark: Mark) -> bool
         ensures { result ≡ has mark (tokens self.now.rest.now) }
     {
@@ -32,7 +32,7 @@ impl<'a> Reader<'a> {
         }
     }
 
-    /// Passes over a token, where there is one.
+    // Passes over a token, where there is one.
     pub(crate) fn pass(&mut self)
         ensures { tokens self.new.rest.now ≡ tail (tokens self.old.rest.now) }
     {
@@ -41,7 +41,7 @@ impl<'a> Reader<'a> {
         }
     }
 
-    /// Passes over the mark.
+    // Passes over the mark.
     pub(crate) fn mark(&mut self, mark: Mark) -> Result<(), Stop>
         ensures { Passes result (tokens self.new.rest.now)
             (behind mark (tokens self.old.rest.now)) }
@@ -53,7 +53,7 @@ impl<'a> Reader<'a> {
         Ok(())
     }
 
-    /// The reserved word in front.
+    // The reserved word in front.
     pub(crate) fn key(&self) -> Option<Keyword>
         ensures { result ≡ key_at (tokens self.now.rest.now) }
     {
@@ -63,7 +63,7 @@ impl<'a> Reader<'a> {
         }
     }
 
-    /// A word of this kind.
+    // A word of this kind.
     pub(crate) fn word(&mut self, kind: Kind) -> Result<Word, Stop>
         ensures { Reads (λ w. w) result (tokens self.new.rest.now)
             (word_at kind (tokens self.old.rest.now)) }
@@ -77,7 +77,7 @@ impl<'a> Reader<'a> {
         }
     }
 
-    /// One member or more, with commas between them.
+    // One member or more, with commas between them.
     #[tactic(auto, unfolding(crate::specs::Reading::bind))]
     pub(crate) fn list<M: Member>(&mut self) -> Result<List<M::Item>, Stop>
         ensures { Reads (λ xs. xs) result (tokens self.new.rest.now)
@@ -95,7 +95,7 @@ impl<'a> Reader<'a> {
         Err(Stop::NoForm)
     }
 
-    /// Members in brackets.
+    // Members in brackets.
     #[tactic(auto, unfolding(crate::specs::Reading::row_at, crate::specs::Reading::bind))]
     pub(crate) fn row<M: Member>(&mut self) -> Result<List<M::Item>, Stop>
         ensures { Reads (λ xs. xs) result (tokens self.new.rest.now)
@@ -107,7 +107,7 @@ impl<'a> Reader<'a> {
         Ok(members)
     }
 
-    /// Arguments in parentheses, or none.
+    // Arguments in parentheses, or none.
     #[tactic(auto, unfolding(crate::specs::Reading::args_at, crate::specs::Reading::enclosed_at, crate::specs::Reading::bind))]
     pub(crate) fn args<M: Member>(&mut self) -> Result<List<M::Item>, Stop>
         ensures { Reads (λ xs. xs) result (tokens self.new.rest.now)
@@ -122,7 +122,7 @@ impl<'a> Reader<'a> {
         Ok(args)
     }
 
-    /// An entity or a variable.
+    // An entity or a variable.
     #[tactic(auto, unfolding(crate::specs::Reading::term_at, crate::specs::Reading::bind))]
     pub(crate) fn term(&mut self) -> Result<Term, Stop>
         ensures { Reads (λ t. t) result (tokens self.new.rest.now)
@@ -172,7 +172,7 @@ impl<'a> Reader<'a> {
         Ok(Fv { atom, value })
     }
 
-    /// A fluent-value in parentheses.
+    // A fluent-value in parentheses.
     #[tactic(auto, unfolding(crate::specs::Reading::enclosed_at, crate::specs::Reading::bind))]
     pub(crate) fn enclosed_fv(&mut self) -> Result<Fv, Stop>
         ensures { Reads (λ f. f) result (tokens self.new.rest.now)
@@ -251,7 +251,7 @@ impl<'a> Reader<'a> {
     }
 }
 
-/// What the members of a list are.
+// What the members of a list are.
 pub(crate) trait Member {
     type Item: Drop;
 
@@ -262,7 +262,7 @@ pub(crate) trait Member {
             (at (tokens reader.old.rest.now)) };
 }
 
-/// Names of domains.
+// Names of domains.
 pub(crate) struct Names;
 
 impl Member for Names {
@@ -275,7 +275,7 @@ impl Member for Names {
     }
 }
 
-/// Entities or values.
+// Entities or values.
 pub(crate) struct Constants;
 
 impl Member for Constants {
@@ -288,7 +288,7 @@ impl Member for Constants {
     }
 }
 
-/// Arguments of an atom.
+// Arguments of an atom.
 pub(crate) struct Terms;
 
 impl Member for Terms {
@@ -301,7 +301,7 @@ impl Member for Terms {
     }
 }
 
-/// Conditions of a rule.
+// Conditions of a rule.
 pub(crate) struct Bodies;
 
 impl Member for Bodies {

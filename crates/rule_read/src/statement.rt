@@ -24,14 +24,14 @@ fn all_digits(word: &[u8]) -> bool
     word.iter().all(|b| b.is_ascii_digit())
 }
 
-/// 1 to 16 digits.
+// 1 to 16 digits.
 fn is_number(word: &[u8]) -> bool
     ensures { result ≡ is_number word.now }
 {
     all_digits(word) && 0 < word.len() && word.len() <= 16
 }
 
-/// The number that digits write.
+// The number that digits write.
 #[tactic(auto, using(crate::proofs::Numbers::digits_are_text, crate::proofs::Numbers::digits_parse))]
 fn number_of(digits: &[u8]) -> u64
     requires { is_number digits.now ≡ true }
@@ -61,7 +61,7 @@ impl<'a> Reader<'a> {
         }
     }
 
-    /// A number in parentheses.
+    // A number in parentheses.
     #[tactic(auto, unfolding(crate::specs::Reading::enclosed_at, crate::specs::Reading::bind))]
     fn enclosed_number(&mut self) -> Result<u64, Stop>
         ensures { Reads (λ n. n) result (tokens self.new.rest.now)
@@ -73,7 +73,7 @@ impl<'a> Reader<'a> {
         Ok(number)
     }
 
-    /// Entities in brackets, of which there may be none.
+    // Entities in brackets, of which there may be none.
     #[tactic(auto, unfolding(crate::specs::Reading::any_row_at, crate::specs::Reading::bind))]
     fn entities(&mut self) -> Result<List<Word>, Stop>
         ensures { Reads (λ xs. xs) result (tokens self.new.rest.now)
@@ -99,7 +99,7 @@ impl<'a> Reader<'a> {
         Ok((name, entities))
     }
 
-    /// A declaration and its values.
+    // A declaration and its values.
     #[tactic(auto, unfolding(crate::specs::Reading::valued_at, crate::specs::Reading::bind))]
     fn valued(&mut self) -> Result<(Decl, List<Word>), Stop>
         ensures { Reads (λ x. x) result (tokens self.new.rest.now)
@@ -119,7 +119,7 @@ impl<'a> Reader<'a> {
         self.list::<Bodies>()
     }
 
-    /// A rule with a fluent-value in its head.
+    // A rule with a fluent-value in its head.
     #[tactic(auto, unfolding(crate::specs::Reading::rule_at, crate::specs::Reading::bind))]
     fn fluent_rule(&mut self) -> Result<(Fv, List<Body>), Stop>
         ensures { Reads (λ x. x) result (tokens self.new.rest.now)
@@ -130,7 +130,7 @@ impl<'a> Reader<'a> {
         Ok((fv, bodies))
     }
 
-    /// A rule with an event in its head.
+    // A rule with an event in its head.
     #[tactic(auto, unfolding(crate::specs::Reading::rule_at, crate::specs::Reading::enclosed_at, crate::specs::Reading::bind))]
     fn event_rule(&mut self) -> Result<(Atom, List<Body>), Stop>
         ensures { Reads (λ x. x) result (tokens self.new.rest.now)
@@ -143,7 +143,7 @@ impl<'a> Reader<'a> {
         Ok((atom, bodies))
     }
 
-    /// A fluent-value and the expression that it is determined by.
+    // A fluent-value and the expression that it is determined by.
     #[tactic(auto, unfolding(crate::specs::Reading::static_at, crate::specs::Reading::bind))]
     fn static_rule(&mut self) -> Result<(Fv, Tree), Stop>
         ensures { Reads (λ x. (x.0, plain_tree x.1)) result (tokens self.new.rest.now)
@@ -203,7 +203,7 @@ impl<'a> Reader<'a> {
     }
 }
 
-/// The form of a statement without its dot.
+// The form of a statement without its dot.
 #[tactic(auto, unfolding(crate::specs::Reading::form_of, crate::specs::Reading::bind))]
 pub(crate) fn form_given(alloc: Global, statement: &[Token<'_>]) -> Result<Form, Stop>
     ensures { Gives plain_form result (form_of (tokens statement.now)) }

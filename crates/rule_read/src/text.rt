@@ -21,7 +21,7 @@ use rt_base::List;
 use rule_forms::{Statement, Syntax};
 use std::alloc::Global;
 
-/// No token stands there.
+// No token stands there.
 #[tactic(auto, unfolding(crate::specs::Whole::forms_of))]
 fn is_nothing(found: &[Token<'_>]) -> bool
     ensures { MatchBool result ((line : ℕ) → forms_of (lead line (tokens found.now) [])
@@ -34,8 +34,8 @@ fn is_nothing(found: &[Token<'_>]) -> bool
     }
 }
 
-/// The statements of a text that is not too long. Behind a statement that has no form it is still
-/// looked for bytes that may not stand there, since they are refused first.
+// The statements of a text that is not too long. Behind a statement that has no form it is still
+// looked for bytes that may not stand there, since they are refused first.
 #[tactic(auto, using(crate::proofs::Wholes::dot_formed, crate::proofs::Wholes::dot_unformed, crate::proofs::Wholes::end_some, crate::proofs::Wholes::end_none, crate::proofs::Wholes::next_statement, crate::proofs::Wholes::nothing_first, crate::proofs::Wholes::all_first))]
 fn statements_of(alloc: Global, text: &[u8]) -> Result<Vec<Statement>, ReadRefused>
     requires { length text.now ≤ longest }

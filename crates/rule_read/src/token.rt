@@ -3,7 +3,7 @@ ghost use Rattle.std.specs.Prelude.{◌≡◌};
 ghost use Rattle.rt_base.specs.Kinds.{is_letter};
 ghost use Rattle.rule_read.specs.Bytes.{class_of};
 
-/// What a byte is for, outside comments.
+// What a byte is for, outside comments.
 #[derive(Clone, Copy, Debug, PartialEq, Eq)]
 pub(crate) enum Class {
     Letter,
@@ -23,7 +23,7 @@ pub(crate) enum Class {
     Other,
 }
 
-/// The class of a byte.
+// The class of a byte.
 #[tactic(auto, unfolding(crate::specs::Bytes::class_of))]
 pub(crate) fn class_at(b: u8) -> Class
     ensures { result ≡ class_of b }
@@ -50,7 +50,7 @@ pub(crate) fn class_at(b: u8) -> Class
     }
 }
 
-/// The byte is of a word.
+// The byte is of a word.
 #[tactic(auto, unfolding(crate::specs::Bytes::class_of))]
 pub(crate) fn is_letter(b: u8) -> bool
     ensures { result ≡ is_letter b }
@@ -58,7 +58,7 @@ pub(crate) fn is_letter(b: u8) -> bool
     matches!(class_at(b), Class::Letter)
 }
 
-/// A token that is neither a word nor a dot.
+// A token that is neither a word nor a dot.
 #[derive(Clone, Copy, Debug, PartialEq, Eq)]
 pub(crate) enum Mark {
     Open,
@@ -72,14 +72,14 @@ pub(crate) enum Mark {
     Stray,
 }
 
-/// A token that is no dot.
+// A token that is no dot.
 #[derive(Clone, Copy, Debug)]
 pub(crate) enum Token<'a> {
     Word(&'a [u8]),
     Mark(Mark),
 }
 
-/// What stands at the front of a text, gaps and comments aside.
+// What stands at the front of a text, gaps and comments aside.
 #[derive(Clone, Copy, Debug)]
 pub(crate) enum Lexeme<'a> {
     Token(Token<'a>),
@@ -88,12 +88,12 @@ pub(crate) enum Lexeme<'a> {
     End,
 }
 
-/// How a statement ends.
+// How a statement ends.
 #[derive(Clone, Copy, Debug, PartialEq, Eq)]
 pub(crate) enum Ending {
     Dot,
-    /// The text ends.
+    // The text ends.
     End,
-    /// A byte that may not stand there.
+    // A byte that may not stand there.
     Bad,
 }

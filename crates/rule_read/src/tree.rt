@@ -36,7 +36,7 @@ fn complement_of(first: Box<Tree>, others: Vec<Tree>) -> Tree
 }
 
 impl<'a> Reader<'a> {
-    /// An expression with at most so many constructs inside one another.
+    // An expression with at most so many constructs inside one another.
     #[cycle(tree)]
     #[tactic(auto, using(crate::proofs::Depths::one_more_deep), unfolding(crate::specs::Reading::expression_at, crate::specs::Reading::mapped, crate::specs::Reading::bind))]
     pub(crate) fn tree(&mut self, depth: u8) -> Result<Tree, Stop>
@@ -49,8 +49,8 @@ impl<'a> Reader<'a> {
         self.construct(depth - 1)
     }
 
-    /// A construct over members with at most so many constructs inside one another, or a
-    /// fluent-value.
+    // A construct over members with at most so many constructs inside one another, or a
+    // fluent-value.
     #[cycle(tree)]
     #[tactic(auto, unfolding(crate::specs::Reading::construct_at, crate::specs::Reading::mapped, crate::specs::Reading::bind))]
     fn construct(&mut self, depth: u8) -> Result<Tree, Stop>
@@ -76,7 +76,7 @@ impl<'a> Reader<'a> {
         }
     }
 
-    /// Expressions in brackets, in parentheses.
+    // Expressions in brackets, in parentheses.
     #[cycle(tree)]
     #[tactic(auto, unfolding(crate::specs::Reading::enclosed_at, crate::specs::Reading::bind))]
     fn enclosed_trees(&mut self, depth: u8) -> Result<Vec<Tree>, Stop>
@@ -89,7 +89,7 @@ impl<'a> Reader<'a> {
         Ok(members)
     }
 
-    /// An expression and others in brackets, in parentheses.
+    // An expression and others in brackets, in parentheses.
     #[cycle(tree)]
     #[tactic(auto, unfolding(crate::specs::Reading::enclosed_at, crate::specs::Reading::pair_at, crate::specs::Reading::bind))]
     fn enclosed_pair(&mut self, depth: u8) -> Result<(Tree, Vec<Tree>), Stop>
@@ -105,7 +105,7 @@ impl<'a> Reader<'a> {
         Ok((first, others))
     }
 
-    /// Expressions in brackets.
+    // Expressions in brackets.
     #[cycle(tree)]
     #[tactic(auto, unfolding(crate::specs::Reading::row_at, crate::specs::Reading::bind))]
     fn tree_row(&mut self, depth: u8) -> Result<Vec<Tree>, Stop>
@@ -118,7 +118,7 @@ impl<'a> Reader<'a> {
         Ok(members)
     }
 
-    /// One expression or more, with commas between them.
+    // One expression or more, with commas between them.
     #[cycle(tree)]
     #[tactic(auto, unfolding(crate::specs::Reading::bind))]
     fn trees(&mut self, depth: u8) -> Result<Vec<Tree>, Stop>

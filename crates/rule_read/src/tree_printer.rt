@@ -31,7 +31,7 @@ pub(crate) fn put_tree<'a>(out: &mut Vec<Token<'a>>, tree: &'a Tree) -> Result<(
     }
 }
 
-/// A construct over some members.
+// A construct over some members.
 #[cycle(tree)]
 fn put_construct<'a>(
     out: &mut Vec<Token<'a>>,
@@ -47,7 +47,7 @@ fn put_construct<'a>(
     put_mark(out, Mark::Close)
 }
 
-/// Expressions in brackets.
+// Expressions in brackets.
 #[cycle(tree)]
 fn put_tree_row<'a>(out: &mut Vec<Token<'a>>, members: &'a [Tree]) -> Result<(), OutOfMemory>
     ensures { OnOk result (tokens out.new.items ≡ tokens out.old.items ++ in_brackets
@@ -58,7 +58,7 @@ fn put_tree_row<'a>(out: &mut Vec<Token<'a>>, members: &'a [Tree]) -> Result<(),
     put_mark(out, Mark::CloseList)
 }
 
-/// Expressions with commas between them.
+// Expressions with commas between them.
 #[cycle(tree)]
 fn put_trees<'a>(out: &mut Vec<Token<'a>>, members: &'a [Tree]) -> Result<(), OutOfMemory>
     ensures { OnOk result (tokens out.new.items ≡ tokens out.old.items ++ commas

@@ -57,7 +57,7 @@ pub enum ScriptFault {
     Stuck,
 }
 
-/// How a run ends. Inputs are numbered in the order of the words, the description from 0.
+/// How a run ends. Inputs are numbered from 0 in the order of the words, the description first.
 #[derive(Clone, Copy, Debug, PartialEq, Eq)]
 pub enum Status {
     /// The text was written whole, and every input was read to its end.

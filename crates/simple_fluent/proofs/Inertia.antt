@@ -99,10 +99,10 @@ unless_by : (gone : List ℕ) (v : Option ℕ) → kept_unless v gone ≡ after_
 unless_by gone None = refl
 unless_by gone (Some v) = unless_cond v (contains gone v)
 
-next_is : (v : Option ℕ) (starts gone : List ℕ) → next_value v starts gone
+next_by_first : (v : Option ℕ) (starts gone : List ℕ) → next_value v starts gone
     ≡ after_event (first_value starts) (among gone v) v
-next_is v [] gone = unless_by gone v
-next_is v (i ∷ rest) gone = refl
+next_by_first v [] gone = unless_by gone v
+next_by_first v (i ∷ rest) gone = refl
 
 pub value_first : (opening : Option ℕ) (inits terms : List (List ℕ)) (w : ℕ)
     → value opening inits terms w (w + 1) ≡ opening
@@ -115,7 +115,7 @@ pub value_more : (opening : Option ℕ) (inits terms : List (List ℕ)) (w t : �
     (value opening inits terms w t)
 value_more opening inits terms w t above =
     value_goes_on opening (values_with 0 inits) (values_with 0 terms) w t above
-    ∙ next_is (value opening inits terms w t) (values_with 0 inits t) (values_with 0 terms t)
+    ∙ next_by_first (value opening inits terms w t) (values_with 0 inits t) (values_with 0 terms t)
     ∙ rw (first_is 0 inits t, among_is terms (value opening inits terms w t) t) refl
 
 steady_by : (opening : Option ℕ) (inits terms : List (List ℕ)) (w a n : ℕ) (v : Option ℕ) → w < a
@@ -149,16 +149,16 @@ pub record IsIn (w q t : ℕ) : Type 0 where
   pub above : w < t
   pub within : t ≤ q
 
-in_by : (w q t p : ℕ) (b c : Bool) → eqb p t ≡ b → w < p → p ≤ q → (c ≡ true → IsIn w q t)
+in_window_by : (w q t p : ℕ) (b c : Bool) → eqb p t ≡ b → w < p → p ≤ q → (c ≡ true → IsIn w q t)
     → (b || c) ≡ true → IsIn w q t
-in_by w q t p true c same low high go is = let at : p ≡ t = grind (arith, nat_tests) in
+in_window_by w q t p true c same low high go is = let at : p ≡ t = grind (arith, nat_tests) in
     rw (← at) (record { above = low; within = high })
-in_by w q t p false c same low high go is = go is
+in_window_by w q t p false c same low high go is = go is
 
 pub inside_is : (w q : ℕ) (xs : List ℕ) (t : ℕ) → IsInside w q xs → contains xs t ≡ true
     → IsIn w q t
 inside_is w q [] t inside is = cc
-inside_is w q (p ∷ rest) t inside is = in_by w q t p (eqb p t) (contains rest t) refl inside.0
+inside_is w q (p ∷ rest) t inside is = in_window_by w q t p (eqb p t) (contains rest t) refl inside.0
     inside.1 (inside_is w q rest t inside.2) is
 
 least_by : (w q t v u : ℕ) (b : Bool) (o : Option ℕ) → (b ≡ true → IsIn w q t)

@@ -192,10 +192,10 @@ each_by test w q out rising below each t (inr above) (inl le) = each t above le
 each_by test w q out rising below each t (inr above) (inr high) =
     covers_above (q + 2) out t below (omega arith) ∙ sym (out_of_window w q t (test t) (inr high))
 
-row_by : (test : ℕ → Bool) (w q : ℕ) (out : List (ℕ × ℕ)) → IsRisingFrom w out
+run_by : (test : ℕ → Bool) (w q : ℕ) (out : List (ℕ × ℕ)) → IsRisingFrom w out
     → IsBelow (q + 2) out →
     ((t : ℕ) → w < t → t ≤ q + 1 → covers out t ≡ test t) → IsRowByPoints test w q out
-row_by test w q out rising below each = record {
+run_by test w q out rising below each = record {
   rising = rising;
   each = λ t. each_by test w q out rising below each t (le_or_above t w) (le_or_above t (q + 1));
 }
@@ -206,10 +206,10 @@ pub closed_at_end : (test : ℕ → Bool) (w q : ℕ) (out : List (ℕ × ℕ)) 
     IsRowByPoints test w q (out ++ pairs (closed_at begun false (q + 1)))
 closed_at_end test w q out None s =
     rw (append-nil out)
-    (row_by test w q out s.rising (below_more (q + 1) (q + 2) out s.below (omega arith))
+    (run_by test w q out s.rising (below_more (q + 1) (q + 2) out s.below (omega arith))
     (λ t low high. sym (or-false _) ∙ sym (s.each t low high)))
 closed_at_end test w q out (Some a) s =
-    row_by test w q (out ++ (a, q + 1) ∷ [])
+    run_by test w q (out ++ (a, q + 1) ∷ [])
     (rising_push w a (q + 1) out s.rising s.within.0 s.within.1 s.below)
     (below_push (q + 2) (a, q + 1) out (below_more a (q + 2) out s.below
     (omega (arith, s.within.1))) (omega arith))

@@ -1,10 +1,8 @@
-//! The rows of a simple fluent over a window, from its value at the start of the window and the
-//! points at which each of its values is initiated and terminated. Its promise: the spans of a
-//! value are exactly the maximal runs of the points at which it holds by the law of inertia. It
-//! merges the initiations of all values by halves and goes over them in one sweep, looks the
-//! terminations of the value that holds up by halves, and walks no points of time between them. It
-//! stands on `span_algebra` for lists of points and spans, and on `ground_types` for what a row
-//! means.
+//! The rows of a simple fluent over a window, from its opening value and the points at which each
+//! of its values is initiated and terminated. Its promise: the spans of a value are exactly the
+//! maximal runs of the points at which it holds by the law of inertia. It merges the initiations of
+//! all values and goes over them in one sweep, without walking points of time. It stands on
+//! `span_algebra` for lists of points and spans, and on `ground_types` for what a row means.
 #![tactic(auto)]
 
 ghost use Rattle.std.specs.Prelude.{◌≡◌, ◌<◌, ◌^◌, ◌-◌, length, map, IfOk};

@@ -42,9 +42,9 @@ taken_by : (test : ℕ → Bool) (p : ℕ) (ps out : List ℕ) → test p ≡ tr
     → (out ++ p ∷ []) ++ filter test ps ≡ out ++ filter test (p ∷ ps)
 taken_by test p ps out is = rw (is, append_assoc) refl
 
-left_by : (test : ℕ → Bool) (p : ℕ) (ps out : List ℕ) → test p ≡ false → out ++ filter test ps
+left_out_by : (test : ℕ → Bool) (p : ℕ) (ps out : List ℕ) → test p ≡ false → out ++ filter test ps
     ≡ out ++ filter test (p ∷ ps)
-left_by test p ps out is = rw is refl
+left_out_by test p ps out is = rw is refl
 
 pub cut_take : (within : List Span) (points : List ℕ) (s : Span) (spans : List Span) (p : ℕ)
     (ps out : List ℕ) →
@@ -63,20 +63,20 @@ pub cut_leave : (within : List Span) (points : List ℕ) (s : Span) (spans : Lis
 cut_leave within points s spans p ps out c low = record {
   normal = c.normal;
   rising = rising_lower (p + 1) 0 ps c.rising.1 (omega arith);
-  same = left_by (λ t. covers (s ∷ spans) t) p ps out
+  same = left_out_by (λ t. covers (s ∷ spans) t) p ps out
       (covers_floor s.after (s ∷ spans) p (omega arith, c.normal.1, c.normal.2) low) ∙ c.same;
 }
 
-none_left : (points : List ℕ) → filter (λ t. covers [] t) points ≡ []
-none_left [] = refl
-none_left (p ∷ rest) = none_left rest
+none_covered : (points : List ℕ) → filter (λ t. covers [] t) points ≡ []
+none_covered [] = refl
+none_covered (p ∷ rest) = none_covered rest
 
 pub cutting_end : (within : List Span) (points : List ℕ) (spans : List Span) (ps out : List ℕ) →
     IsCutting within points spans ps out → (ps ≡ []) ⊎ (spans ≡ [])
     → out ≡ filter (λ t. covers within t) points
 cutting_end within points spans ps out c (inl is) = sym (append-nil out) ∙ rw is at c.same
 cutting_end within points spans ps out c (inr is) =
-    sym (append-nil out) ∙ ap (λ (r : List ℕ). out ++ r) (sym (none_left ps)) ∙ rw is at c.same
+    sym (append-nil out) ∙ ap (λ (r : List ℕ). out ++ r) (sym (none_covered ps)) ∙ rw is at c.same
 
 -- the same, from what the calls of one turn ensure
 pub turn_span : (within : List Span) (points : List ℕ) (spans : List Span) (ps out : List ℕ)

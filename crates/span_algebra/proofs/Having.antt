@@ -88,13 +88,13 @@ same_first floor p q xs ys left right same low =
     let both : true ≡ false = sym (has_hit p xs p refl) ∙ same p ∙ none in
     cc
 
-same_rest : (p : ℕ) (xs ys : List ℕ) → IsRisingFrom (p + 1) xs → IsRisingFrom (p + 1) ys →
+same_points_behind : (p : ℕ) (xs ys : List ℕ) → IsRisingFrom (p + 1) xs → IsRisingFrom (p + 1) ys →
     ((t : ℕ) → has (p ∷ xs) t ≡ has (p ∷ ys) t) → (t : ℕ) → (p + 1 ≤ t) ⊎ (t < p + 1)
     → has xs t ≡ has ys t
-same_rest p xs ys left right same t (inl high) =
+same_points_behind p xs ys left right same t (inl high) =
     let other : p ≢ t = (λ is. omega arith) in
     sym (has_miss p xs t other) ∙ same t ∙ has_miss p ys t other
-same_rest p xs ys left right same t (inr low) = has_floor (p + 1) xs t left low
+same_points_behind p xs ys left right same t (inr low) = has_floor (p + 1) xs t left low
     ∙ sym (has_floor (p + 1) ys t right low)
 
 -- a rising list is fixed by its points
@@ -113,5 +113,5 @@ rising_unique floor (p ∷ xs) (q ∷ ys) left right same =
     let points : (t : ℕ) → has (p ∷ xs) t ≡ has (p ∷ ys) t =
     subst (λ (v : ℕ). (t : ℕ) → has (p ∷ xs) t ≡ has (v ∷ ys) t) (sym first) same in
     let rest : xs ≡ ys = rising_unique (p + 1) xs ys left.1 again
-    (λ t. same_rest p xs ys left.1 again points t (le_or_above (p + 1) t)) in
+    (λ t. same_points_behind p xs ys left.1 again points t (le_or_above (p + 1) t)) in
     cc

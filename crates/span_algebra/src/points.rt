@@ -37,7 +37,7 @@ fn rises_with(list: &[Point], place: usize) -> bool
 }
 
 // The place of the first point that is not above the one before it.
-fn first_bad(list: &[Point]) -> Option<usize>
+fn first_not_rising(list: &[Point]) -> Option<usize>
     ensures bad { IfSome result (IsFirstBad IsRising list.now) }
     ensures rising { IfNone result (IsRising list.now) }
 {
@@ -69,7 +69,7 @@ impl Points {
         ensures not_normal { (place : ℕ) → (result ≡ Err (ListRefused.NotNormal place))
             ↔ IsFirstBad IsRising list.now place }
     {
-        if let Some(place) = first_bad(list) {
+        if let Some(place) = first_not_rising(list) {
             return Err(ListRefused::NotNormal { place });
         }
         match Vec::from_slice(alloc, list) {

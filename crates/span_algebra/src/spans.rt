@@ -48,7 +48,7 @@ fn is_normal_with(list: &[Span], place: usize) -> bool
 }
 
 // The place of the first span that is empty, or that touches or overlaps the one before it.
-fn first_bad(list: &[Span]) -> Option<usize>
+fn first_not_normal(list: &[Span]) -> Option<usize>
     ensures bad { IfSome result (IsFirstBad IsNormal list.now) }
     ensures normal { IfNone result (IsNormal list.now) }
 {
@@ -81,7 +81,7 @@ impl Spans {
         ensures not_normal { (place : ℕ) → (result ≡ Err (ListRefused.NotNormal place))
             ↔ IsFirstBad IsNormal list.now place }
     {
-        if let Some(place) = first_bad(list) {
+        if let Some(place) = first_not_normal(list) {
             return Err(ListRefused::NotNormal { place });
         }
         match Vec::from_slice(alloc, list) {

@@ -43,21 +43,21 @@ data IsOneHead (form : PlainForm) : Type 0 where
   no_head : head_of form ≡ [] → IsOneHead form
   one_head : (m : Mention) → head_of form ≡ m ∷ [] → IsOneHead form
 
-heads : (form : PlainForm) → IsOneHead form
-heads (Window n) = no_head refl
-heads (Step n) = no_head refl
-heads (From n) = no_head refl
-heads (Queries n) = no_head refl
-heads (Domain name entities) = no_head refl
-heads (Input decl) = no_head refl
-heads (Simple decl values) = no_head refl
-heads (Static decl values) = no_head refl
-heads (Derived decl) = no_head refl
-heads (Initially fv) = one_head _ refl
-heads (Initiated fv bodies) = one_head _ refl
-heads (Terminated fv bodies) = one_head _ refl
-heads (Happens atom bodies) = one_head _ refl
-heads (HoldsFor fv e) = one_head _ refl
+one_heads : (form : PlainForm) → IsOneHead form
+one_heads (Window n) = no_head refl
+one_heads (Step n) = no_head refl
+one_heads (From n) = no_head refl
+one_heads (Queries n) = no_head refl
+one_heads (Domain name entities) = no_head refl
+one_heads (Input decl) = no_head refl
+one_heads (Simple decl values) = no_head refl
+one_heads (Static decl values) = no_head refl
+one_heads (Derived decl) = no_head refl
+one_heads (Initially fv) = one_head _ refl
+one_heads (Initiated fv bodies) = one_head _ refl
+one_heads (Terminated fv bodies) = one_head _ refl
+one_heads (Happens atom bodies) = one_head _ refl
+one_heads (HoldsFor fv e) = one_head _ refl
 
 places_of_mentions : (names : List Name) (ms : List Mention)
     → places_of names (map (λ m. m.atom.name) ms) ≡ mention_places names ms
@@ -135,7 +135,7 @@ module _ (names : List Name) (distinct : is_distinct (name_words names) ≡ true
 
   pub row_with_rule : slice_get (with_rule names rows form) place
       ≡ Some (row ++ added (defines name.word form))
-  row_with_rule = by_heads (heads form)
+  row_with_rule = by_heads (one_heads form)
 
 add_length : (rows : List (List ℕ)) (hs more : List ℕ) → length (add_at rows hs more) ≡ length rows
 add_length rows [] more = refl

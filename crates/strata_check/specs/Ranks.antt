@@ -1,4 +1,5 @@
--- Ranks of places, which no place has a higher one of than those that name it.
+-- For private functions alone: ranks of places, where no place has a higher one than those that
+-- name it.
 use Rattle.std.specs.Prelude.{◌≡◌, ◌<◌, ℕ, suc, List, slice_get, slice_index_or, Some}
 use Rattle.strata_check.specs.Rows.{row_at, Leads}
 

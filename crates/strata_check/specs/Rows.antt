@@ -1,4 +1,4 @@
--- The same by places: for each name the places of the names in its bodies.
+-- For private functions alone: which names occur in the bodies of which, by their places.
 use Rattle.std.specs.Prelude.{◌≡◌, ◌<◌, ℕ, List, [], ◌∷◌, ◌++◌, length, filter_map, flat_map}
 use Rattle.std.specs.Prelude.{slice_get, slice_index_or, slice_set, option_to_list, Option, Some}
 use Rattle.ground_types.specs.declared.program.Name.{Name}

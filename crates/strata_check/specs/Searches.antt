@@ -1,4 +1,4 @@
--- A search for the places to which a place leads.
+-- For private functions alone: a search for the places to which a place leads.
 use Rattle.std.specs.Prelude.{◌≡◌, ◌⊎◌, ◌+◌, ◌*◌, ◌≤◌, reverse, ℕ, suc, Bool, true, false, List, []}
 use Rattle.std.specs.Prelude.{◌∷◌, length, slice_get, Some}
 use Rattle.strata_check.specs.Rows.{NamesIt, Leads}

@@ -1,4 +1,5 @@
--- A walk from name to name that gives each its layer once all names in its row have theirs.
+-- For private functions alone: a walk from name to name that gives each its layer once all names
+-- in its row have theirs.
 use Rattle.std.specs.Prelude.{◌≡◌, ◌≢◌, ◌⊎◌, ◌+◌, ◌-◌, ◌<◌, ◌≤◌, ℕ, suc, List, [], ◌∷◌, length, map}
 use Rattle.std.specs.Prelude.{take, slice_get, Option, Some, None, if◌then◌else◌}
 use Rattle.ground_types.specs.Sound.{is_input}

@@ -1,7 +1,7 @@
 //! The layers of names: in which order fluents and derived events are computed, or why there is
 //! none. Its promise: `layers` refuses exactly where some declared name depends on itself, and
 //! names the first; otherwise each name has the layer of the definition. It stands on
-//! `domain_decl`, and on what that stands on.
+//! `decl_known`, and on what that stands on.
 #![tactic(auto)]
 
 mod laws;

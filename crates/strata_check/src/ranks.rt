@@ -3,26 +3,26 @@ use crate::row::Row;
 use rt_base::OutOfMemory;
 use std::alloc::Global;
 
-/// What the search knows of a place.
+// What the search knows of a place.
 #[derive(Clone, Copy)]
-struct Point {
-    /// In which order it was met, from 1; 0 where it was not met.
+struct Visit {
+    // In which order it was met, from 1; 0 where it was not met.
     number: usize,
-    /// The least number of an unranked place that it is known to lead to, or its own.
+    // The least number of an unranked place that it is known to lead to, or its own.
     low: usize,
-    /// How many places of its row were looked at.
+    // How many places of its row were looked at.
     looked: usize,
     rank: Option<u32>,
 }
 
-/// Tarjan's search for strongly connected components, with stacks of its own in place of calls.
+// Tarjan's search for strongly connected components, with stacks of its own in place of calls.
 #[derive(Drop)]
 struct Search<'a> {
     rows: &'a [Row],
-    points: Vec<Point>,
-    /// The way from the start to where the search stands.
+    visits: Vec<Visit>,
+    // The way from the start to where the search stands.
     trail: Vec<usize>,
-    /// The places that were met and have no rank yet.
+    // The places that were met and have no rank yet.
     unranked: Vec<usize>,
     met: usize,
     rank: u32,
@@ -30,9 +30,9 @@ struct Search<'a> {
 
 impl<'a> Search<'a> {
     fn new(alloc: Global, rows: &'a [Row]) -> Result<Search<'a>, OutOfMemory> {
-        let mut points = Vec::with_capacity(alloc, rows.len())?;
+        let mut visits = Vec::with_capacity(alloc, rows.len())?;
         for _ in 0..rows.len() {
-            points.push(Point {
+            visits.push(Visit {
                 number: 0,
                 low: 0,
                 looked: 0,
@@ -41,7 +41,7 @@ impl<'a> Search<'a> {
         }
         Ok(Search {
             rows,
-            points,
+            visits,
             trail: Vec::new(alloc),
             unranked: Vec::new(alloc),
             met: 0,
@@ -52,9 +52,9 @@ impl<'a> Search<'a> {
     // Goes to a place that was not met.
     fn enter(&mut self, place: usize) -> Result<(), OutOfMemory> {
         self.met = self.met.saturating_add(1);
-        if let Some(point) = self.points.get_mut(place) {
-            point.number = self.met;
-            point.low = self.met;
+        if let Some(visit) = self.visits.get_mut(place) {
+            visit.number = self.met;
+            visit.low = self.met;
         }
         self.unranked.push(place)?;
         self.trail.push(place)?;
@@ -62,21 +62,21 @@ impl<'a> Search<'a> {
     }
 
     fn lower(&mut self, place: usize, low: usize) {
-        if let Some(point) = self.points.get_mut(place) {
-            point.low = point.low.min(low);
+        if let Some(visit) = self.visits.get_mut(place) {
+            visit.low = visit.low.min(low);
         }
     }
 
     // Looks along the way from a place to another.
     fn look(&mut self, place: usize, other: usize) -> Result<(), OutOfMemory> {
-        let Some(point) = self.points.get(other).copied() else {
+        let Some(visit) = self.visits.get(other).copied() else {
             return Ok(());
         };
-        if point.number == 0 {
+        if visit.number == 0 {
             return self.enter(other);
         }
-        if point.rank.is_none() {
-            self.lower(place, point.number);
+        if visit.rank.is_none() {
+            self.lower(place, visit.number);
         }
         Ok(())
     }
@@ -84,9 +84,9 @@ impl<'a> Search<'a> {
     // The next place in a row that was not looked at.
     fn next_of(&mut self, place: usize) -> Option<usize> {
         let row = self.rows.get(place)?;
-        let point = self.points.get_mut(place)?;
-        let next = row.as_slice().get(point.looked).copied();
-        point.looked = point.looked.saturating_add(1);
+        let visit = self.visits.get_mut(place)?;
+        let next = row.as_slice().get(visit.looked).copied();
+        visit.looked = visit.looked.saturating_add(1);
         next
     }
 
@@ -96,8 +96,8 @@ impl<'a> Search<'a> {
             let Some(other) = self.unranked.pop() else {
                 break;
             };
-            if let Some(point) = self.points.get_mut(other) {
-                point.rank = Some(self.rank);
+            if let Some(visit) = self.visits.get_mut(other) {
+                visit.rank = Some(self.rank);
             }
             if other == place {
                 break;
@@ -110,14 +110,14 @@ impl<'a> Search<'a> {
     // leads to none before.
     fn leave(&mut self, place: usize) {
         self.trail.pop();
-        let Some(point) = self.points.get(place).copied() else {
+        let Some(visit) = self.visits.get(place).copied() else {
             return;
         };
-        if point.low == point.number {
+        if visit.low == visit.number {
             self.close(place);
         }
         if let Some(above) = self.trail.last().copied() {
-            self.lower(above, point.low);
+            self.lower(above, visit.low);
         }
     }
 
@@ -134,8 +134,8 @@ impl<'a> Search<'a> {
     }
 
     fn is_met(&self, place: usize) -> bool {
-        match self.points.get(place) {
-            Some(point) => point.number > 0,
+        match self.visits.get(place) {
+            Some(visit) => visit.number > 0,
             None => true,
         }
     }
@@ -155,9 +155,9 @@ impl<'a> Search<'a> {
     }
 
     fn ranks(&self, alloc: Global) -> Result<Vec<u32>, OutOfMemory> {
-        let mut ranks = Vec::with_capacity(alloc, self.points.len())?;
-        for point in self.points.as_slice() {
-            ranks.push(point.rank.unwrap_or(0))?;
+        let mut ranks = Vec::with_capacity(alloc, self.visits.len())?;
+        for visit in self.visits.as_slice() {
+            ranks.push(visit.rank.unwrap_or(0))?;
         }
         Ok(ranks)
     }
@@ -173,10 +173,10 @@ fn most_steps(rows: &[Row]) -> usize {
     steps
 }
 
-/// For each place the number of its strongly connected component, in the order in which these are
-/// complete: a place has no higher rank than one that names it, and the same exactly where the two
-/// lead to each other. This is not proved, since no answer rests on it: wrong ranks would only cost
-/// time.
+// For each place the number of its strongly connected component, in the order in which these are
+// complete: a place has no higher rank than one that names it, and the same exactly where the two
+// lead to each other. This is not proved, since no answer rests on it: wrong ranks would only cost
+// time.
 pub(crate) fn ranks(alloc: Global, rows: &[Row]) -> Result<Vec<u32>, OutOfMemory> {
     let mut search = Search::new(alloc, rows)?;
     let limit = most_steps(rows);

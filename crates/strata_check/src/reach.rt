@@ -66,7 +66,7 @@ fn none_seen(alloc: Global, count: usize) -> Result<Vec<bool>, OutOfMemory>
     Ok(seen)
 }
 
-/// Whether a place leads to itself.
+// Whether a place leads to itself.
 pub(crate) fn leads_to_itself(
     alloc: Global,
     rows: &[Row],

@@ -5,8 +5,8 @@ use rt_base::OutOfMemory;
 use std::alloc::Global;
 use std::marker::Model;
 
-/// The places of the names in the bodies of a name, as often as they occur. Contracts see the list
-/// of them.
+// The places of the names in the bodies of a name, as often as they occur. Contracts see the list
+// of them.
 #[derive(Drop)]
 pub(crate) struct Row {
     places: Vec<usize>,
@@ -21,7 +21,7 @@ impl Model for Row {
 }
 
 impl Row {
-    /// No places. It takes no memory.
+    // No places. It takes no memory.
     pub(crate) fn new(alloc: Global) -> Row
         ensures { result ≡ [] }
     {
@@ -30,7 +30,7 @@ impl Row {
         }
     }
 
-    /// Puts a place behind the others.
+    // Puts a place behind the others.
     pub(crate) fn push(&mut self, place: usize) -> Result<(), OutOfMemory>
         ensures { IfOk result (λ _. self.new ≡ self.old ++ (place ∷ [])) }
     {
@@ -38,7 +38,7 @@ impl Row {
         Ok(())
     }
 
-    /// The places.
+    // The places.
     pub(crate) fn as_slice(&self) -> &[usize]
         ensures { result.now ≡ self.now }
     {

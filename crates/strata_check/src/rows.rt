@@ -82,7 +82,7 @@ fn empty_rows(alloc: Global, count: usize) -> Result<Vec<Row>, OutOfMemory>
     Ok(rows)
 }
 
-/// For each name the places of the names in its bodies.
+// For each name the places of the names in its bodies.
 pub(crate) fn rows_of(
     alloc: Global,
     known: &Known,

@@ -35,8 +35,8 @@ fn never_rise(rows: &[Row], ranks: &[u32]) -> bool
     true
 }
 
-/// The first place that names one of its own rank, unless ranks rise somewhere. No place before it
-/// leads to itself, whatever the ranks are: along each way from there they would fall.
+// The first place that names one of its own rank, unless ranks rise somewhere. No place before it
+// leads to itself, whatever the ranks are: along each way from there they would fall.
 pub(crate) fn first_tied(rows: &[Row], ranks: &[u32]) -> Option<usize>
     ensures within { IfSome result (λ place. place < length rows.now) }
     ensures first { IfSome result (λ place. NoCircleBefore rows.now place) }

@@ -12,23 +12,23 @@ use ground_types::{Name, NameKind};
 use rt_base::OutOfMemory;
 use std::alloc::Global;
 
-/// How far a name has come.
+// How far a name has come.
 #[derive(Clone, Copy, Debug)]
 pub(crate) enum Mark {
     New,
-    /// So many places of its row have layers, and the greatest of these.
+    // So many places of its row have layers, and the greatest of these.
     Open { next: usize, greatest: u32 },
     Done { layer: u32 },
 }
 
-/// The names and their rows.
+// The names and their rows.
 #[derive(Clone, Copy)]
 pub(crate) struct Graph<'a> {
     pub names: &'a [Name],
     pub rows: &'a [Row],
 }
 
-/// A place at which the walk stands, and how far it has come there.
+// A place at which the walk stands, and how far it has come there.
 #[derive(Clone, Copy)]
 struct Standing {
     place: usize,
@@ -36,6 +36,7 @@ struct Standing {
     greatest: u32,
 }
 
+// The layer of a name, where the greatest layer in its bodies is this.
 fn layer_over(name: &Name, greatest: u32) -> u32
     requires { greatest < 2 ^ 32 - 1 }
     ensures { result ≡ layer_over (Some name.now) greatest }
@@ -46,12 +47,14 @@ fn layer_over(name: &Name, greatest: u32) -> u32
     }
 }
 
+// The greater of two layers.
 fn greater(one: u32, other: u32) -> u32
     ensures { result ≡ max one other }
 {
     one.max(other)
 }
 
+// The place that is next in a row; None past its end.
 fn in_row(row: &Row, next: usize) -> Option<usize>
     ensures is { result ≡ slice_get row.now next }
     ensures fits { IsSome result → next + 1 < 2 ^ 64 }
@@ -258,7 +261,7 @@ fn visit(
     }
 }
 
-/// Gives each name its layer, unless one leads to itself.
+// Gives each name its layer, unless one leads to itself.
 pub(crate) fn walk(alloc: Global, graph: &Graph) -> Result<Option<Vec<Mark>>, OutOfMemory>
     requires few { length graph.now.names.now < 2 ^ 32 }
     requires inside { AreInside graph.now.rows.now }

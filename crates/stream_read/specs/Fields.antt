@@ -1,4 +1,4 @@
--- Numbers in fields of a record.
+-- Public contracts speak by this: numbers in fields of a record.
 use Rattle.std.specs.Prelude.{ℕ, ◌+◌, ◌-◌, ◌*◌, nat_le, Bool, ◌&&◌, if◌then◌else◌, List, [], ◌∷◌}
 use Rattle.std.specs.Prelude.{length, Option, Some, None}
 

@@ -1,4 +1,4 @@
--- A script, record by record.
+-- For private functions alone: a script, record by record.
 use Rattle.std.specs.Prelude.{◌≡◌, ◌≤◌, Bool, true, false, ℕ, ◌+◌, nat_lt, List, [], ◌∷◌, ◌++◌}
 use Rattle.std.specs.Prelude.{Option, Some, None, Result, Ok, Err, if◌then◌else◌}
 use Rattle.ground_types.specs.declared.program.Program.{Program}

@@ -1,4 +1,4 @@
--- The records that a reader of a text has left.
+-- For private functions alone: the records that a reader of a text has left.
 use Rattle.std.specs.Prelude.{◌≡◌, ℕ, ◌+◌, Bool, true, false, List, [], ◌∷◌, length, Option, Some}
 use Rattle.std.specs.Prelude.{None, IsSome}
 use Rattle.std.specs.Borrow.{Bor}

@@ -1,5 +1,5 @@
--- What a look-up has after each argument of a name. `entities_named` and `number_of` of
--- `ground_names` say what it comes to.
+-- For private functions alone: what a look-up has after each argument of a name. `entities_named`
+-- and `number_of` of `ground_names` say what it comes to.
 use Rattle.std.specs.Prelude.{ℕ, ◌+◌, ◌*◌, List, [], ◌∷◌, length, Option, Some, None, option_map}
 use Rattle.std.specs.Prelude.{option_and_then}
 use Rattle.ground_types.specs.declared.program.Domain.{Domain}

@@ -1,4 +1,5 @@
--- What a record says in a script of each shape, from the list of its fields.
+-- Public contracts speak by this: what a record says in a script of each shape, from the list of
+-- its fields.
 use Rattle.std.specs.Prelude.{ℕ, List, [], ◌∷◌, codes, Option, Some, None, option_and_then}
 use Rattle.std.specs.Prelude.{option_map, if◌then◌else◌}
 use Rattle.std.specs.Str.{bytes_eq}

@@ -1,4 +1,4 @@
--- The commands of a script.
+-- Public contracts speak by this: the commands of a script.
 use Rattle.std.specs.Prelude.{◌≡◌, ◌≤◌, ℕ, ◌+◌, nat_lt, Bool, true, false, List, [], ◌∷◌, length}
 use Rattle.std.specs.Prelude.{map, take, filter, position, Option, Some, None, Result, Ok, Err}
 use Rattle.csv.specs.Reading.{records, default_config, strip_bom}

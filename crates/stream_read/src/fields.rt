@@ -6,7 +6,7 @@ ghost use Rattle.stream_read.specs.Fields.{number_of, feeder_of};
 use csv::ByteRecord;
 use std::marker::Model;
 
-/// The fields of a record that are left.
+// The fields of a record that are left.
 #[derive(Drop)]
 pub(crate) struct Fields<'a> {
     row: &'a ByteRecord,
@@ -23,14 +23,14 @@ impl<'a> Model for Fields<'a> {
 }
 
 impl<'a> Fields<'a> {
-    /// All fields of a record.
+    // All fields of a record.
     pub(crate) fn of(row: &'a ByteRecord) -> Fields<'a>
         ensures { result ≡ fields_of row.now }
     {
         Fields { row, at: 0 }
     }
 
-    /// The next field, which is then no longer left.
+    // The next field, which is then no longer left.
     pub(crate) fn next(&mut self) -> Option<&'a [u8]>
         ensures { MatchOption result (self.old ≡ []) (λ field. self.old ≡ field.now ∷ self.new) }
     {
@@ -40,7 +40,7 @@ impl<'a> Fields<'a> {
     }
 }
 
-/// The number of 1 to 16 digits, leading zeros allowed.
+// The number of 1 to 16 digits, leading zeros allowed.
 pub(crate) fn number(text: &[u8]) -> Option<u64>
     ensures { result ≡ number_of text.now }
 {
@@ -57,7 +57,7 @@ pub(crate) fn number(text: &[u8]) -> Option<u64>
     Some(value)
 }
 
-/// The number of a feeder, one digit, 1 to 8.
+// The number of a feeder, one digit, 1 to 8.
 pub(crate) fn feeder(text: &[u8]) -> Option<u8>
     ensures { result ≡ feeder_of text.now }
 {

@@ -15,11 +15,11 @@ use rt_base::OutOfMemory;
 use std::alloc::Global;
 use word_table::WordTable;
 
-/// A program with tables in which its names and its entities are found. It borrows the program and
-/// copies no word.
+// A program with tables in which its names and its entities are found. It borrows the program and
+// copies no word.
 #[derive(Drop)]
 pub(crate) struct Names<'a> {
-    /// The program that it was made of.
+    // The program that it was made of.
     pub program: &'a Program,
     // The words of the names, each at the place of its name.
     by_word: WordTable<'a>,
@@ -52,7 +52,7 @@ fn tables_of<'a>(alloc: Global, domains: &'a [Domain]) -> Result<Vec<WordTable<'
 }
 
 impl<'a> Names<'a> {
-    /// The tables of a program. One insertion for each name and each entity.
+    // The tables of a program. One insertion for each name and each entity.
     pub(crate) fn new(alloc: Global, program: &'a Program) -> Result<Names<'a>, OutOfMemory>
         requires { IsSound program.now }
         ensures { IfOk result (λ names. names.program.now ≡ program.now) }
@@ -123,8 +123,8 @@ impl<'a> Names<'a> {
         Some(name.first + place as u32)
     }
 
-    /// The ground input event that a name and the fields that are left name; None where they name
-    /// none. One look-up for each word.
+    // The ground input event that a name and the fields that are left name; None where they name
+    // none. One look-up for each word.
     pub(crate) fn event(&self, word: &[u8], fields: &mut Fields) -> Option<EventId>
         ensures { result ≡ event_named (record {
           program = self.now.program.now;
@@ -139,8 +139,8 @@ impl<'a> Names<'a> {
         }
     }
 
-    /// The ground fluent that a name and the fields that are left name; None where they name none.
-    /// One look-up for each word.
+    // The ground fluent that a name and the fields that are left name; None where they name none.
+    // One look-up for each word.
     pub(crate) fn unit(&self, word: &[u8], fields: &mut Fields) -> Option<UnitId>
         ensures { result ≡ unit_named (record {
           program = self.now.program.now;

@@ -15,7 +15,7 @@ use rt_base::{List, OutOfMemory};
 use std::alloc::Global;
 use std::marker::Model;
 
-/// The most records of a script.
+// The most records of a script.
 const MOST_RECORDS: u32 = 2_097_152;
 
 // What the records so far come to.

@@ -16,14 +16,14 @@ use csv::ByteRecord;
 use ground_names::value_of;
 use ground_types::{Act, Command, Query};
 
-/// What a record says in a script.
+// What a record says in a script.
 #[derive(Clone, Copy)]
 pub(crate) enum Meaning {
-    /// It is a command.
+    // It is a command.
     Means(Command),
-    /// It names no ground input event: it is counted, and makes no command.
+    // It names no ground input event: it is counted, and makes no command.
     Ignored,
-    /// It has no form of the script.
+    // It has no form of the script.
     NoForm,
 }
 
@@ -203,7 +203,7 @@ fn meaning_by(names: &Names, shape: Shape, verb: Verb, fields: &mut Fields) -> M
     }
 }
 
-/// What a record says in a script of a shape.
+// What a record says in a script of a shape.
 pub(crate) fn meaning_of(names: &Names, shape: Shape, row: &ByteRecord) -> Meaning
     requires { IsSound names.now.program.now }
     ensures { result ≡ meaning_of names.now.program.now shape (fields_of row.now) }

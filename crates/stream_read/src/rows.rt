@@ -9,7 +9,7 @@ use csv::{ByteRecord, Error, Reader, ReaderBuilder};
 use rt_base::OutOfMemory;
 use std::alloc::Global;
 
-/// A reader of the records of a text: without a header row, and with any number of fields.
+// A reader of the records of a text: without a header row, and with any number of fields.
 pub(crate) fn reader_of(alloc: Global, text: &[u8]) -> Reader<&[u8]>
     ensures reading { IsReading result }
     ensures all { left result ≡ records_of text.now }
@@ -28,7 +28,7 @@ fn out_of_memory(error: &Error) -> OutOfMemory
     OutOfMemory
 }
 
-/// The next record, and whether there was one.
+// The next record, and whether there was one.
 pub(crate) fn next_row(
     reader: &mut Reader<&[u8]>,
     row: &mut ByteRecord,

@@ -2,7 +2,7 @@
 ghost use Rattle.std.specs.Prelude.{◌≡◌};
 ghost use Rattle.stream_read.specs.Records.{verb_of};
 
-/// What the first field of a record is.
+// What the first field of a record is.
 #[derive(Clone, Copy)]
 pub(crate) enum Verb {
     Adds,
@@ -14,7 +14,7 @@ pub(crate) enum Verb {
     Other,
 }
 
-/// The verb of these bytes.
+// The verb of these bytes.
 pub(crate) fn verb_of(field: &[u8]) -> Verb
     ensures { result ≡ verb_of field.now }
 {

@@ -1,6 +1,6 @@
 //! What printed texts are made of: pieces of a line, words and numbers, and the atoms of ground
-//! events and units. Its promise: each call adds exactly the text of its definition to the end of
-//! another, or a part of it where memory runs out. It stands on `ground_types` for names and
+//! events and units. Its promise: each call that succeeds adds exactly the text of its
+//! definition to the end of another; where memory runs out it may leave a part of it. It stands on `ground_types` for names and
 //! domains, and on `itoa` for decimal digits.
 #![tactic(auto)]
 

@@ -17,7 +17,7 @@ pub enum Piece<'a> {
     Sum(u128),
 }
 
-/// Adds a text. Refused, it adds nothing.
+/// Adds a text. The one error is want of memory.
 pub fn put_text(out: &mut Vec<u8>, text: &str) -> Result<(), OutOfMemory>
     ensures { OnOk result (out.new.items ≡ out.old.items ++ text.now) }
 {
@@ -25,7 +25,7 @@ pub fn put_text(out: &mut Vec<u8>, text: &str) -> Result<(), OutOfMemory>
     Ok(())
 }
 
-// Adds a number in decimal digits. Refused, it adds nothing.
+// Adds a number in decimal digits.
 fn put_number<I: Integer>(out: &mut Vec<u8>, n: I) -> Result<(), OutOfMemory>
     ensures { OnOk result (out.new.items ≡ out.old.items ++ I.text n) }
 {
@@ -34,7 +34,7 @@ fn put_number<I: Integer>(out: &mut Vec<u8>, n: I) -> Result<(), OutOfMemory>
     Ok(())
 }
 
-// Adds a piece. Refused, it adds nothing.
+// Adds a piece.
 fn put_piece(out: &mut Vec<u8>, piece: Piece) -> Result<(), OutOfMemory>
     ensures { OnOk result (out.new.items ≡ out.old.items ++ text_of_piece piece.entry) }
 {
@@ -45,7 +45,7 @@ fn put_piece(out: &mut Vec<u8>, piece: Piece) -> Result<(), OutOfMemory>
     }
 }
 
-/// Adds pieces, one after the other. Refused, it leaves a part of them.
+/// Adds pieces, one after the other. The one error is want of memory; a part of them may be left.
 pub fn put_all(out: &mut Vec<u8>, pieces: &[Piece]) -> Result<(), OutOfMemory>
     ensures { OnOk result (out.new.items ≡ out.old.items ++ flat_map text_of_piece pieces.now) }
 {

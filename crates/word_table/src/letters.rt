@@ -5,8 +5,8 @@ ghost use Rattle.std.proofs.lemmas.Slice.Eq.{bytes_eq-Decides};
 
 use std::hash::{Hash, Hasher};
 
-/// The bytes of a word. They are hashed in one step of the hasher, where a slice is hashed byte by
-/// byte.
+// The bytes of a word. They are hashed in one step of the hasher, where a slice is hashed byte by
+// byte.
 #[derive(Clone, Copy, Debug, PartialEq, Eq)]
 pub(crate) struct Letters<'a> {
     pub bytes: &'a [u8],

@@ -17,6 +17,9 @@ mod scripts;
 const LAMP: &str = "window(10).\nstep(5).\nfrom(0).\ninput up.\ninput down.\nsimple on [true].\n\
 initiatedAt(on=true) :- happensAt(up).\nterminatedAt(on=true) :- happensAt(down).\n";
 
+// The words of `recognise`.
+const REPORT: &str = "recognise|desc|script";
+
 // Two who meet where they differ, over a domain of one.
 const MEETING: &str = "window(10).\nstep(5).\ndomain v [x].\ninput near(v, v).\n\
 simple met(v, v) [true].\ninitiatedAt(met(X, Y)=true) :- happensAt(near(X, Y)), X \\= Y.\n";

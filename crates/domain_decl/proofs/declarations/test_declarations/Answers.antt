@@ -2,7 +2,7 @@ use Rattle.std.proofs.Common.{◌≡◌, ◌+◌, ◌∙◌, ap, sym, subst, map
 use Rattle.std.proofs.Common.{cond}
 use Rattle.std.specs.List.{cons_option, count_by}
 use Rattle.rule_forms.specs.Forms.{plain, plain_form}
-use Rattle.domain_decl.specs.Accepted.{Tests}
+use Rattle.domain_decl.specs.Testing.{Tests}
 use Rattle.domain_decl.specs.Declarations.{is_domain, declares, declaration_refusal}
 use Rattle.domain_decl.proofs.Prefixes.{filter_map-next}
 use Rattle.domain_decl.proofs.Declaring.{count_next, refused_next, passed_next}

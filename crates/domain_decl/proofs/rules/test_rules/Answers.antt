@@ -1,7 +1,7 @@
 use Rattle.std.proofs.Common.{◌≡◌, rules, map, sym, subst, Err}
 use Rattle.rule_forms.specs.Forms.{plain}
 use Rattle.decl_known.specs.Rules.{rule_refusal}
-use Rattle.domain_decl.specs.Accepted.{Tests}
+use Rattle.domain_decl.specs.Testing.{Tests}
 use Rattle.domain_decl.proofs.Refusals.{rule_refused, rule_passed}
 use Rattle.domain_decl.proofs.rules.test_rules.Goals as goal
 

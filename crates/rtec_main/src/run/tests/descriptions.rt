@@ -1,13 +1,11 @@
 // Descriptions that are refused.
-use super::{FIRST_RUN, LAMP, Long, MEETING, changed, of_files, recognised, written_out};
+use super::{FIRST_RUN, LAMP, Long, MEETING, REPORT, changed, of_files, recognised, written_out};
 use std::test::Fail;
 
 // The first rule of the lamp.
 const SWITCH: &str = "initiatedAt(on=true) :- happensAt(up).";
 
-// The words of the two commands.
-const REPORT: &str = "recognise|desc|script";
-
+// The words of `ground`.
 const GROUND: &str = "ground|desc";
 
 #[test]

@@ -1,9 +1,6 @@
 // Words of no command, and faults of files and sinks.
-use super::{FIRST_REPORT, FIRST_RUN, LAMP, MEETING, Run, said};
+use super::{FIRST_REPORT, FIRST_RUN, LAMP, MEETING, REPORT, Run, said};
 use std::test::Fail;
-
-// The words of `recognise`.
-const REPORT: &str = "recognise|desc|script";
 
 // A run over the lamp and its script, in which nothing fails.
 const WELL: Run = Run {
