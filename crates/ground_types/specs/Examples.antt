@@ -11,6 +11,7 @@ use Rattle.ground_types.specs.declared.entries.Reply.TheVariants.{Forgotten}
 use Rattle.ground_types.specs.declared.entries.Entry.{Entry}
 use Rattle.ground_types.specs.declared.entries.Entry.TheVariants.{Fed, Seal}
 use Rattle.ground_types.specs.declared.program.Rule.{Rule}
+use Rattle.ground_types.specs.declared.program.Trigger.{Trigger}
 use Rattle.ground_types.specs.declared.program.Trigger.TheVariants.{Event, Start, End}
 use Rattle.ground_types.specs.declared.program.What.TheVariants.{Holds}
 use Rattle.ground_types.specs.declared.program.Unit.{Unit}
@@ -237,6 +238,16 @@ later_add : reply_to ten_by_five (Fed 1 Revoke 0 4 Unknown ∷ Seal 0 ∷ Fed 1 
     ∷ []) Add 0 11 ≡ Admitted
 later_add = refl
 
+-- the lamp, and a derived event at this
+abbrev alarm_at : Trigger → List Unit
+alarm_at trigger =
+    fluent_of 2 (at_event 0 0 ∷ []) (at_event 0 1 ∷ [])
+    ∷ record {
+      name = 3;
+      args = [];
+      kind = Derived (record { value = 0; trigger = trigger; conds = [] } ∷ []);
+    } ∷ []
+
 -- the lamp, and an alarm where it goes on
 abbrev pub alarm : Program
 alarm = record {
@@ -253,17 +264,7 @@ alarm = record {
         first = 1;
         line = 7;
       } ∷ [];
-  units =
-      fluent_of 2 (at_event 0 0 ∷ []) (at_event 0 1 ∷ [])
-      ∷ record {
-        name = 3;
-        args = [];
-        kind = Derived (record {
-          value = 0;
-          trigger = Start 0 0;
-          conds = [];
-        } ∷ []);
-      } ∷ [];
+  units = alarm_at (Start 0 0);
   layers = (0 ∷ []) ∷ (1 ∷ []) ∷ [];
   events = 2;
 }
@@ -387,17 +388,7 @@ lit_rows = refl
 -- the alarm where the lamp goes off
 abbrev dark : Program
 dark = record alarm {
-  units =
-      fluent_of 2 (at_event 0 0 ∷ []) (at_event 0 1 ∷ [])
-      ∷ record {
-        name = 3;
-        args = [];
-        kind = Derived (record {
-          value = 0;
-          trigger = End 0 0;
-          conds = [];
-        } ∷ []);
-      } ∷ [];
+  units = alarm_at (End 0 0);
 }
 
 dark_rows : (publication dark first_run 0).rows ≡ fluent_rows (((3, 7) ∷ (9, 11) ∷ []) ∷ [])
