@@ -3,3 +3,4 @@ pub mod LookUps
 pub mod Anys
 pub mod Greatest
 pub mod ComputedKinds
+pub mod Faultless
