@@ -1,9 +1,9 @@
 -- The ground input events of a sound program are those of the name whose numbers hold theirs.
-use Rattle.std.proofs.Common.{◌≡◌, ℕ, ◌+◌, ◌-◌, ◌<◌, ◌≤◌, ◌^◌, Bool, true, false, cond, ◌&&◌, ◌==◌}
+use Rattle.std.proofs.Common.{◌≡◌, ℕ, ◌+◌, ◌-◌, ◌<◌, ◌≤◌, ◌^◌, Bool, true, false, cond, ◌&&◌}
 use Rattle.std.proofs.Common.{nat_le, nat_lt, if◌then◌else◌, List, [], ◌∷◌, ◌++◌, map, flat_map}
 use Rattle.std.proofs.Common.{find, length, slice_get, option_map, option_and_then, Option, Some}
 use Rattle.std.proofs.Common.{None, refl, sym, ap, ◌∙◌, arith}
-use Rattle.std.proofs.lemmas.Bool.{and_parts, eqb-true, leb-true, le-leb, ltb-true, ltb-false}
+use Rattle.std.proofs.lemmas.Bool.{and_parts, leb-true, le-leb, ltb-true, ltb-false}
 use Rattle.std.proofs.lemmas.List.{length-map}
 use Rattle.std.proofs.lemmas.Option.{slice_get-map}
 use Rattle.ground_types.specs.Sound.{is_input, arguments_of, are_numbered, IsSound}
@@ -15,7 +15,7 @@ use Rattle.ground_names.specs.EventAtoms.{atoms_of_input, event_atoms}
 use Rattle.ground_names.specs.EventNames.{has_event}
 use Rattle.ground_names.proofs.FirstFound.{found_passes, found_is_one}
 use Rattle.ground_names.proofs.Ordered.{get_front, get_back}
-use Rattle.ground_names.proofs.SmallNumbers.{sound_small}
+use Rattle.ground_names.proofs.SmallNumbers.{next_number, sound_small}
 
 -- ---- the name of an event
 
@@ -97,30 +97,19 @@ module _ (program : Program) where
           → slice_get (heads names) j ≡ head_among program.domains event names)
           → slice_get (heads (name ∷ names)) k ≡ found (has_event program.domains name event)
       by_kind true kind rest =
-          let here : ((name.first == first) && are_numbered program (first + count) unit names)
-          ≡ true = ap (λ b. if b then (name.first == first) && are_numbered program
-          (first + count) unit names else ((name.first == unit) && are_numbered program first
-          (unit + count) names)) (sym kind) ∙ e in
-          let parts = and_parts (name.first == first) (are_numbered program (first + count) unit
-          names) here in
-          let begin : name.first ≡ first = eqb-true name.first first parts.0 in
-          let number : event - name.first ≡ k = omega (arith, at, begin) in
+          let next = next_number program name names first unit e true kind in
+          let number : event - name.first ≡ k = omega (arith, at, next.0) in
           let has : has_event program.domains name event ≡ nat_lt k count =
           ap (λ b. b && nat_le name.first event && nat_lt (event - name.first) count) kind
           ∙ ap (λ b. b && nat_lt (event - name.first) count)
-          (le-leb name.first event (omega (arith, at, begin)))
+          (le-leb name.first event (omega (arith, at, next.0)))
           ∙ ap (λ n. nat_lt n count) number in
           ap (λ b. slice_get ((if b then own else []) ++ heads names) k) kind
-          ∙ by_place (nat_lt k count) refl number has (λ j h. rest (first + count) unit j h parts.1)
+          ∙ by_place (nat_lt k count) refl number has (λ j h. rest (first + count) unit j h next.1)
       by_kind false kind rest =
-          let here : ((name.first == unit) && are_numbered program first (unit + count) names)
-          ≡ true = ap (λ b. if b then (name.first == first) && are_numbered program
-          (first + count) unit names else ((name.first == unit) && are_numbered program first
-          (unit + count) names)) (sym kind) ∙ e in
-          let parts = and_parts (name.first == unit) (are_numbered program first (unit + count)
-          names) here in
+          let next = next_number program name names first unit e false kind in
           ap (λ b. slice_get ((if b then own else []) ++ heads names) k) kind
-          ∙ rest first (unit + count) k at parts.1
+          ∙ rest first (unit + count) k at next.1
           ∙ sym (ap found (ap (λ b. b && nat_le name.first event && nat_lt (event - name.first)
           count) kind))
 

@@ -10,6 +10,34 @@ use Rattle.ground_types.specs.declared.program.Name.{Name}
 use Rattle.ground_types.specs.declared.program.Program.{Program}
 use Rattle.ground_names.specs.Counted.{has_small_numbers}
 
+-- a name has the next number, of an event or of a unit, and the names behind it go on
+pub next_number : (program : Program) (name : Name) (names : List Name) (event unit : ℕ)
+    → are_numbered program event unit (name ∷ names) ≡ true → (b : Bool) → is_input name.kind ≡ b
+    → (name.first ≡ (if b then event else unit))
+    × (are_numbered program (if b then event + length (arguments_of program.domains name)
+    else event) (if b then unit else unit + length (arguments_of program.domains name)) names
+    ≡ true)
+next_number program name names event unit e b kind = by b (ap numbering (sym kind) ∙ e)
+  where
+    count : ℕ
+    count = length (arguments_of program.domains name)
+
+    numbering : Bool → Bool
+    numbering b = if b then (name.first == event) && are_numbered program (event + count) unit
+        names else ((name.first == unit) && are_numbered program event (unit + count) names)
+
+    by : (b : Bool) → numbering b ≡ true → (name.first ≡ (if b then event else unit))
+        × (are_numbered program (if b then event + count else event)
+        (if b then unit else unit + count) names ≡ true)
+    by true e =
+        let parts = and_parts (name.first == event) (are_numbered program (event + count) unit
+        names) e in
+        (eqb-true name.first event parts.0, parts.1)
+    by false e =
+        let parts = and_parts (name.first == unit) (are_numbered program event (unit + count)
+        names) e in
+        (eqb-true name.first unit parts.0, parts.1)
+
 module _ (program : Program) (events : program.events < 2 ^ 32) where
   -- where all names are numbered, the events so far are at most all
   record AreSmall (event : ℕ) (names : List Name) : Type 0 where
@@ -39,39 +67,27 @@ module _ (program : Program) (events : program.events < 2 ^ 32) where
           → AreSmall ev names)
           → AreSmall event (name ∷ names)
       by true k rest =
-          let here : ((name.first == event) && are_numbered program (event + count) unit names)
-          ≡ true = ap (λ b. if b then (name.first == event) && are_numbered program
-          (event + count) unit names else ((name.first == unit) && are_numbered program event
-          (unit + count) names)) (sym k) ∙ e in
-          let both = and_parts (name.first == event) (are_numbered program (event + count) unit
-          names) here in
-          let first : name.first ≡ event = eqb-true name.first event both.0 in
+          let next = next_number program name names event unit e true k in
           let these : length ((if is_input name.kind then [] else heads) ++ others)
           ≡ length others = ap (λ b. length ((if b then [] else heads) ++ others)) k in
-          let more = rest (event + count) unit (omega (arith, few, these)) both.1 in
+          let more = rest (event + count) unit (omega (arith, few, these)) next.1 in
           record {
             most = omega (arith, more.most);
             all = ap₂ ◌&&◌ (lt-ltb (name.first + count) (2 ^ 32)
-                (omega (arith, more.most, events, first))) more.all;
+                (omega (arith, more.most, events, next.0))) more.all;
           }
       by false k rest =
-          let here : ((name.first == unit) && are_numbered program event (unit + count) names)
-          ≡ true = ap (λ b. if b then (name.first == event) && are_numbered program
-          (event + count) unit names else ((name.first == unit) && are_numbered program event
-          (unit + count) names)) (sym k) ∙ e in
-          let both = and_parts (name.first == unit) (are_numbered program event (unit + count)
-          names) here in
-          let first : name.first ≡ unit = eqb-true name.first unit both.0 in
+          let next = next_number program name names event unit e false k in
           let these : length ((if is_input name.kind then [] else heads) ++ others)
           ≡ count + length others =
           ap (λ b. length ((if b then [] else heads) ++ others)) k ∙ length-append heads others
           ∙ ap (λ n. n + length others) (length-map (arguments_of program.domains name)
           (λ args. (start, args))) in
-          let more = rest event (unit + count) (omega (arith, few, these)) both.1 in
+          let more = rest event (unit + count) (omega (arith, few, these)) next.1 in
           record {
             most = more.most;
             all = ap₂ ◌&&◌ (lt-ltb (name.first + count) (2 ^ 32)
-                (omega (arith, few, these, first))) more.all;
+                (omega (arith, few, these, next.0))) more.all;
           }
 
 pub sound_small : (program : Program) → IsSound program
