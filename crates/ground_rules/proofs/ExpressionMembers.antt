@@ -1,9 +1,10 @@
 -- Expressions, and what they are under an assignment, by the list of their members.
-use Rattle.std.proofs.Common.{◌≡◌, map, refl, sym, ap, ◌∙◌}
+use Rattle.std.proofs.Common.{◌≡◌, List, [], ◌∷◌, map, refl, sym, ap, ◌∙◌}
 use Rattle.std.specs.Global.{Vec}
 use Rattle.ground_types.specs.declared.program.Expr as expr
 use Rattle.rule_forms.specs.declared.form.Tree as tree
-use Rattle.rule_forms.specs.Forms.{plain_tree, plain_row}
+use Rattle.rule_forms.specs.Forms.{plain_tree, expressions}
+use Rattle.rule_forms.proofs.Trees.{plain_union, plain_intersect, plain_complement}
 use Rattle.ground_rules.specs.Assignments.{Instance}
 use Rattle.ground_rules.specs.Atoms.{GroundExpression, Union_is, Intersect_is, Complement_is}
 use Rattle.ground_rules.specs.Atoms.{and_more, plain_expr, plain_exprs, ground_expression}
@@ -46,34 +47,25 @@ module _ (i : Instance) where
   abbrev pub ground_tree : tree.Tree → GroundExpression
   ground_tree t = ground_expression i (plain_tree t)
 
-  ground_row : (n : _) (row : tree.Row_of-Tree n) → ground_expressions i (plain_row row)
-      ≡ all_of (map ground_tree (tree.items-the_row-Tree n row))
-  ground_row n tree.end_of-Tree = refl
-  ground_row n (tree.more_of-Tree member rest) = ap (λ es. and_more (ground_tree member) es)
-      (ground_row _ rest)
-
-  abbrev tree_row : tree.Tree → (n : _) × tree.Row_of-Tree n
-  tree_row (tree.Union' _ row) = (_, row)
-  tree_row (tree.Intersect' _ row) = (_, row)
-  tree_row (tree.Complement' _ first _ row) = (_, row)
-  tree_row _ = (_, tree.end_of-Tree)
-
-  ground_members : (v : Vec tree.Tree) → ground_expressions i
-      (plain_row (tree_row (tree.Union v)).1) ≡ all_of (map ground_tree v.items)
-  ground_members v = let row = tree_row (tree.Union v) in ground_row row.0 row.1
-      ∙ ap (λ ts. all_of (map ground_tree ts)) (tree.items_hidden-the_row-Tree-0 v)
+  ground_members : (trees : List tree.Tree) → ground_expressions i
+      (expressions (map plain_tree trees)) ≡ all_of (map ground_tree trees)
+  ground_members [] = refl
+  ground_members (t ∷ trees) = ap (and_more (ground_tree t)) (ground_members trees)
 
   ground_union : (v : Vec tree.Tree) → ground_tree (tree.Union v)
       ≡ Union_is (all_of (map ground_tree v.items))
-  ground_union v = ap Union_is (ground_members v)
+  ground_union v = ap (ground_expression i) (plain_union v)
+      ∙ ap Union_is (ground_members v.items)
 
   ground_intersect : (v : Vec tree.Tree) → ground_tree (tree.Intersect v)
       ≡ Intersect_is (all_of (map ground_tree v.items))
-  ground_intersect v = ap Intersect_is (ground_members v)
+  ground_intersect v = ap (ground_expression i) (plain_intersect v)
+      ∙ ap Intersect_is (ground_members v.items)
 
   pub ground_complement : (b : _) (v : Vec tree.Tree) → ground_tree (tree.Complement b v)
       ≡ Complement_is (ground_tree b.value) (all_of (map ground_tree v.items))
-  ground_complement b v = ap (Complement_is (ground_tree b.value)) (ground_members v)
+  ground_complement b v = ap (ground_expression i) (plain_complement b v)
+      ∙ ap (Complement_is (ground_tree b.value)) (ground_members v.items)
 
   -- ---- expressions whose members are what they are under the assignment
 

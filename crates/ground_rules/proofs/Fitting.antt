@@ -218,15 +218,22 @@ module _ (program : Program) (domains : List Domain) (declared : List Name) (all
       behind_head i bodies ground = all_front (Grounds domains names i)
           (flat_map body_mentions bodies) [] ground
 
+      rule_made : (i : Instance) → i.clause.names ≡ names → (fv : Fv) (bodies : List Body)
+          → AllOf (Grounds domains names i)
+          (fluent_value SimpleFluent fv ∷ flat_map body_mentions bodies ++ [])
+          → ground_atom i fv.atom ≡ k → (rule : Rule)
+          → ground_rule i (ground_value i fv) bodies ≡ Some rule
+          → rule_fits program (unit_values program unit) rule ≡ true
+      rule_made i these fv bodies ground head rule e =
+          rule_is_fit i these (unit_values program unit) (ground_value i fv) bodies
+          (head_value_below i these fv ground.0 head) (behind_head i bodies ground.1) rule e
+
       initiation_made : (form : PlainForm) → AllOf (Grounds domains names (made form))
           (mentions form) → head_unit (made form) ≡ k → (rule : Rule)
           → initiation_by (made form) form ≡ Some rule
           → rule_fits program (unit_values program unit) rule ≡ true
       initiation_made (Initiated fv bodies) ground head rule e =
-          rule_is_fit (made (Initiated fv bodies)) names_are (unit_values program unit)
-          (ground_value (made (Initiated fv bodies)) fv) bodies
-          (head_value_below (made (Initiated fv bodies)) names_are fv ground.0 head)
-          (behind_head (made (Initiated fv bodies)) bodies ground.1) rule e
+          rule_made (made (Initiated fv bodies)) names_are fv bodies ground head rule e
       initiation_made form ground head rule e = absurd (none-some rule e)
 
       termination_made : (form : PlainForm) → AllOf (Grounds domains names (made form))
@@ -234,10 +241,7 @@ module _ (program : Program) (domains : List Domain) (declared : List Name) (all
           → termination_by (made form) form ≡ Some rule
           → rule_fits program (unit_values program unit) rule ≡ true
       termination_made (Terminated fv bodies) ground head rule e =
-          rule_is_fit (made (Terminated fv bodies)) names_are (unit_values program unit)
-          (ground_value (made (Terminated fv bodies)) fv) bodies
-          (head_value_below (made (Terminated fv bodies)) names_are fv ground.0 head)
-          (behind_head (made (Terminated fv bodies)) bodies ground.1) rule e
+          rule_made (made (Terminated fv bodies)) names_are fv bodies ground head rule e
       termination_made form ground head rule e = absurd (none-some rule e)
 
       occurrence_made : (form : PlainForm) → AllOf (Grounds domains names (made form))
@@ -260,43 +264,41 @@ module _ (program : Program) (domains : List Domain) (declared : List Name) (all
         × ((head_unit i == k) ≡ true)) (instances_at k all)
     are_heads ground = all_passing (IsGround domains names) (λ i. head_unit i == k) all ground
 
+    rules_fit : (by : Instance → PlainForm → Option Rule) (values : ℕ)
+        → ((i : Instance) → IsGround domains names i → head_unit i ≡ k → (rule : Rule)
+        → by i i.clause.form ≡ Some rule → rule_fits program values rule ≡ true)
+        → AllOf (IsGround domains names) all
+        → AllOf (λ rule. rule_fits program values rule ≡ true)
+        (filter_map (λ i. by i i.clause.form) (instances_at k all))
+    rules_fit by values each ground =
+        all_filter_map (λ rule. rule_fits program values rule ≡ true)
+        (λ i. by i i.clause.form) (instances_at k all)
+        (all_weaker (λ i. IsGround domains names i × ((head_unit i == k) ≡ true))
+        (λ i. (rule : Rule) → by i i.clause.form ≡ Some rule
+        → rule_fits program values rule ≡ true)
+        (λ i h. each i h.0 (eqb-true (head_unit i) k h.1)) (instances_at k all)
+        (are_heads ground))
+
     initiations_fit : AllOf (IsGround domains names) all
         → AllOf (λ rule. rule_fits program (unit_values program unit) rule ≡ true)
         (filter_map (λ i. initiation_by i i.clause.form) (instances_at k all))
-    initiations_fit ground =
-        all_filter_map (λ rule. rule_fits program (unit_values program unit) rule ≡ true)
-        (λ i. initiation_by i i.clause.form) (instances_at k all)
-        (all_weaker (λ i. IsGround domains names i × ((head_unit i == k) ≡ true))
-        (λ i. (rule : Rule) → initiation_by i i.clause.form ≡ Some rule
-        → rule_fits program (unit_values program unit) rule ≡ true)
-        (λ i h. initiation_made i.clause.domains i.clause.names i.assignment h.0.names_are
-        i.clause.form h.0.mentioned (eqb-true (head_unit i) k h.1)) (instances_at k all)
-        (are_heads ground))
+    initiations_fit = rules_fit initiation_by (unit_values program unit) (λ i ground.
+        initiation_made i.clause.domains i.clause.names i.assignment ground.names_are
+        i.clause.form ground.mentioned)
 
     terminations_fit : AllOf (IsGround domains names) all
         → AllOf (λ rule. rule_fits program (unit_values program unit) rule ≡ true)
         (filter_map (λ i. termination_by i i.clause.form) (instances_at k all))
-    terminations_fit ground =
-        all_filter_map (λ rule. rule_fits program (unit_values program unit) rule ≡ true)
-        (λ i. termination_by i i.clause.form) (instances_at k all)
-        (all_weaker (λ i. IsGround domains names i × ((head_unit i == k) ≡ true))
-        (λ i. (rule : Rule) → termination_by i i.clause.form ≡ Some rule
-        → rule_fits program (unit_values program unit) rule ≡ true)
-        (λ i h. termination_made i.clause.domains i.clause.names i.assignment h.0.names_are
-        i.clause.form h.0.mentioned (eqb-true (head_unit i) k h.1)) (instances_at k all)
-        (are_heads ground))
+    terminations_fit = rules_fit termination_by (unit_values program unit) (λ i ground.
+        termination_made i.clause.domains i.clause.names i.assignment ground.names_are
+        i.clause.form ground.mentioned)
 
     occurrences_fit : AllOf (IsGround domains names) all
         → AllOf (λ rule. rule_fits program 1 rule ≡ true)
         (filter_map (λ i. occurrence_by i i.clause.form) (instances_at k all))
-    occurrences_fit ground =
-        all_filter_map (λ rule. rule_fits program 1 rule ≡ true)
-        (λ i. occurrence_by i i.clause.form) (instances_at k all)
-        (all_weaker (λ i. IsGround domains names i × ((head_unit i == k) ≡ true))
-        (λ i. (rule : Rule) → occurrence_by i i.clause.form ≡ Some rule
-        → rule_fits program 1 rule ≡ true)
-        (λ i h. occurrence_made i.clause.domains i.clause.names i.assignment h.0.names_are
-        i.clause.form h.0.mentioned) (instances_at k all) (are_heads ground))
+    occurrences_fit = rules_fit occurrence_by 1 (λ i ground head.
+        occurrence_made i.clause.domains i.clause.names i.assignment ground.names_are
+        i.clause.form ground.mentioned)
 
     union_fits : AllOf (IsGround domains names) all → (v : ℕ)
         → ground_fits program (union_for (instances_at k all) v) ≡ true

@@ -119,37 +119,26 @@ record HasUnit (i : Instance) (form : PlainForm) : Type 0 where
   pub unit : unit_by i form ≡ ground_atom i head.atom
   pub computed : (kind : NameKind) → fits head.role kind ≡ true → is_input kind ≡ false
 
+by_head : (i : Instance) (form : PlainForm) (head : Mention) → head_of form ≡ head ∷ []
+    → unit_by i form ≡ ground_atom i head.atom
+    → ((kind : NameKind) → fits head.role kind ≡ true → is_input kind ≡ false) → HasUnit i form
+by_head i form head only unit computed = record {
+  head = head;
+  only = only;
+  unit = unit;
+  computed = computed;
+}
+
 has_unit : (i : Instance) (form : PlainForm) → is_rule form ≡ true → HasUnit i form
-has_unit i (Initially fv) is = record {
-  head = fluent_value SimpleFluent fv;
-  only = refl;
-  unit = refl;
-  computed = simple_computed;
-}
-has_unit i (Initiated fv bodies) is = record {
-  head = fluent_value SimpleFluent fv;
-  only = refl;
-  unit = refl;
-  computed = simple_computed;
-}
-has_unit i (Terminated fv bodies) is = record {
-  head = fluent_value SimpleFluent fv;
-  only = refl;
-  unit = refl;
-  computed = simple_computed;
-}
-has_unit i (Happens atom bodies) is = record {
-  head = event_atom DerivedEvent atom;
-  only = refl;
-  unit = refl;
-  computed = derived_computed;
-}
-has_unit i (HoldsFor fv e) is = record {
-  head = fluent_value StaticFluent fv;
-  only = refl;
-  unit = refl;
-  computed = static_computed;
-}
+has_unit i (Initially fv) is = by_head i _ (fluent_value SimpleFluent fv) refl refl simple_computed
+has_unit i (Initiated fv bodies) is =
+    by_head i _ (fluent_value SimpleFluent fv) refl refl simple_computed
+has_unit i (Terminated fv bodies) is =
+    by_head i _ (fluent_value SimpleFluent fv) refl refl simple_computed
+has_unit i (Happens atom bodies) is =
+    by_head i _ (event_atom DerivedEvent atom) refl refl derived_computed
+has_unit i (HoldsFor fv e) is =
+    by_head i _ (fluent_value StaticFluent fv) refl refl static_computed
 has_unit i form is = absurd (true≢false (sym is))
 
 -- ---- layers of names

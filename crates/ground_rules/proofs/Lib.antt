@@ -15,7 +15,7 @@ mod Layering
 pub mod KeptWords
 mod UnitNumbers
 mod OneList
-mod RuleCounts
+pub mod RuleCounts
 mod Firsts
 mod Soundness
 mod Occurring

@@ -1,8 +1,7 @@
 -- What an instance of a statement of a checked description mentions is there.
-use Rattle.std.proofs.Common.{◌≡◌, ℕ, ◌+◌, ◌<◌, Bool, true, false, true≢false, not, ◌==◌, List, []}
+use Rattle.std.proofs.Common.{◌≡◌, ℕ, ◌+◌, ◌<◌, true, false, true≢false, not, ◌==◌, List, []}
 use Rattle.std.proofs.Common.{◌∷◌, map, flat_map, filter_map, length, get_or, zip, slice_get}
 use Rattle.std.proofs.Common.{option_map, Option, Some, None, refl, sym, ap, subst, ◌∙◌, arith}
-use Rattle.std.proofs.Common.{if◌then◌else◌}
 use Rattle.std.proofs.lemmas.Bool.{or_parts}
 use Rattle.std.specs.List.{AllZip, list_any}
 use Rattle.std.proofs.lemmas.Bool.Decides.{nat_tests}
@@ -18,17 +17,15 @@ use Rattle.rule_forms.specs.declared.syntax.Statement.{Statement}
 use Rattle.rule_forms.specs.Forms.{PlainForm, plain, plain_form, is_rule}
 use Rattle.rule_forms.specs.Sound.{AllOf, IsSoundForm}
 use Rattle.decl_known.specs.declared.checked.Checked.{Checked}
-use Rattle.decl_known.specs.declared.checked.DeclRefused.TheVariants as refused
 use Rattle.ground_types.specs.Words.{has, place_in, name_words, declaration, entities_of}
 use Rattle.ground_types.specs.Words.{entities_in}
-use Rattle.decl_known.specs.Faults.{Fault, first_fault}
 use Rattle.decl_known.specs.Mentions.{Mention, fits, mentions, variable_in}
-use Rattle.decl_known.specs.Rules.{has_too_many, lacks_trigger, names_undeclared}
-use Rattle.decl_known.specs.Rules.{has_loose_variable, is_of_wrong_kind, has_wrong_arity}
-use Rattle.decl_known.specs.Rules.{has_undeclared_word, has_clash, differs_in_kind}
+use Rattle.decl_known.specs.Rules.{lacks_trigger, is_of_wrong_kind, has_wrong_arity}
+use Rattle.decl_known.specs.Rules.{has_undeclared_word, differs_in_kind}
 use Rattle.decl_known.specs.Rules.{differs_in_arity, differs_in_word, is_foreign, lacks_value}
 use Rattle.decl_known.specs.Rules.{variable_at, places_by, rule_fault}
 use Rattle.decl_known.specs.Checked.{plain_checked}
+use Rattle.decl_known.proofs.Faultless.{Passes, passes}
 use Rattle.decl_known.specs.Sound.{IsSound as IsSoundChecked, IsSoundRule}
 use Rattle.word_table.proofs.LookUps.{declaration_by_place, no_declaration_by_place}
 use Rattle.ground_names.specs.Numbers.{numbered}
@@ -71,55 +68,7 @@ pub record IsGround (domains : List Domain) (names : List Name) (i : Instance) :
 
 -- ---- what no test of a rule says
 
-no_fault : (tests : List (Bool × Fault)) → first_fault tests ≡ None
-    → AllOf (λ (test : Bool × Fault). test.0 ≡ false) tests
-no_fault [] e = tt
-no_fault (test ∷ tests) e = by test.0 refl e (no_fault tests)
-  where
-    by : (b : Bool) → test.0 ≡ b → (if test.0 then Some test.1 else first_fault tests) ≡ None
-        → (first_fault tests ≡ None → AllOf (λ (test : Bool × Fault). test.0 ≡ false) tests)
-        → (test.0 ≡ false) × AllOf (λ (test : Bool × Fault). test.0 ≡ false) tests
-    by true t e rest = absurd (none-some test.1 (sym e ∙ ap (λ b. if b then Some test.1
-        else first_fault tests) t))
-    by false t e rest = (
-      t,
-      rest (sym (ap (λ b. if b then Some test.1 else first_fault tests) t)
-          ∙ e),
-    )
-
--- what holds of a statement that breaks no rule
-record Passes (domains : List Domain) (names : List Name) (form : PlainForm) : Type 0 where
-  trigger : lacks_trigger form ≡ false
-  kinds : list_any (is_of_wrong_kind names) (mentions form) ≡ false
-  arities : list_any (has_wrong_arity names) (mentions form) ≡ false
-  words : list_any (has_undeclared_word domains names) (mentions form) ≡ false
-  clashes : has_clash names form ≡ false
-
-abbrev tests : List Domain → List Name → PlainForm → List (Bool × Fault)
-tests domains names form =
-    (has_too_many form, refused.TooMany)
-    ∷ (lacks_trigger form, refused.NoTrigger)
-    ∷ (list_any (names_undeclared domains names) (mentions form), refused.Undeclared)
-    ∷ (list_any (is_of_wrong_kind names) (mentions form), refused.WrongKind)
-    ∷ (list_any (has_wrong_arity names) (mentions form), refused.Arity)
-    ∷ (list_any (has_undeclared_word domains names) (mentions form), refused.Undeclared)
-    ∷ (has_clash names form, refused.Clash)
-    ∷ (has_loose_variable form, refused.Loose)
-    ∷ []
-
-passes : (domains : List Domain) (names : List Name) (form : PlainForm)
-    → rule_fault domains names form ≡ None → Passes domains names form
-passes domains names form e =
-    let all = no_fault (tests domains names form) e in
-    record {
-      trigger = all.1.0;
-      kinds = all.1.1.1.0;
-      arities = all.1.1.1.1.0;
-      words = all.1.1.1.1.1.0;
-      clashes = all.1.1.1.1.1.1.0;
-    }
-
--- and so it is over the numbered names
+-- what a statement that breaks no rule passes, it passes over the numbered names too
 numbered_passes : (domains : List Domain) (names : List Name) (form : PlainForm)
     → Passes domains names form → Passes domains (numbered domains 0 0 names) form
 numbered_passes domains names form h = record {

@@ -234,25 +234,27 @@ mutual
 abbrev pub behind : PlainForm → List Mention
 behind form = flat_map body_mentions (conditions_of form) ++ leaves_of form
 
-initiation_named : (i : Instance) (form : PlainForm) (rule : Rule) (n : ℕ) → initiation_by i form
-    ≡ Some rule → contains (units_of_rule rule) n ≡ true → IsNamed i (behind form) n
-initiation_named i (Initiated fv bodies) rule n given is =
+-- a rule names units in its conditions alone
+conditions_alone : (i : Instance) (bodies : List Body) (rule : Rule) (n : ℕ)
+    → ground_rule i (head_value i) bodies ≡ Some rule → contains (units_of_rule rule) n ≡ true
+    → IsNamed i (flat_map body_mentions bodies ++ []) n
+conditions_alone i bodies rule n given is =
     named_front i (flat_map body_mentions bodies) [] n (rule_named i (head_value i) bodies rule n
     given is)
+
+initiation_named : (i : Instance) (form : PlainForm) (rule : Rule) (n : ℕ) → initiation_by i form
+    ≡ Some rule → contains (units_of_rule rule) n ≡ true → IsNamed i (behind form) n
+initiation_named i (Initiated fv bodies) rule n given is = conditions_alone i bodies rule n given is
 initiation_named i form rule n given is = absurd (cc)
 
 termination_named : (i : Instance) (form : PlainForm) (rule : Rule) (n : ℕ) → termination_by i form
     ≡ Some rule → contains (units_of_rule rule) n ≡ true → IsNamed i (behind form) n
-termination_named i (Terminated fv bodies) rule n given is =
-    named_front i (flat_map body_mentions bodies) [] n (rule_named i (head_value i) bodies rule n
-    given is)
+termination_named i (Terminated fv bodies) rule n given is = conditions_alone i bodies rule n given is
 termination_named i form rule n given is = absurd (cc)
 
 occurrence_named : (i : Instance) (form : PlainForm) (rule : Rule) (n : ℕ) → occurrence_by i form
     ≡ Some rule → contains (units_of_rule rule) n ≡ true → IsNamed i (behind form) n
-occurrence_named i (Happens atom bodies) rule n given is =
-    named_front i (flat_map body_mentions bodies) [] n (rule_named i (head_value i) bodies rule n
-    given is)
+occurrence_named i (Happens atom bodies) rule n given is = conditions_alone i bodies rule n given is
 occurrence_named i form rule n given is = absurd (cc)
 
 definition_named : (i : Instance) (form : PlainForm) (e : GroundExpression) (n : ℕ)

@@ -1,43 +1,20 @@
--- The variables of expressions, one after the other.
-use Rattle.std.proofs.Common.{◌≡◌, ℕ, ◌+◌, ◌<◌, List, [], ◌∷◌, ◌++◌, length, take, get_or, flat_map}
-use Rattle.std.proofs.Common.{map, fold, refl, ap, sym, ◌∙◌}
+-- The variables of atoms, one after the other.
+use Rattle.std.proofs.Common.{◌≡◌, ℕ, ◌+◌, ◌<◌, List, [], ◌∷◌, ◌++◌, length, take, get_or}
+use Rattle.std.proofs.Common.{map, fold, ap, sym, ◌∙◌}
 use Rattle.std.proofs.lemmas.Grind.{flat_map-append}
 use Rattle.std.proofs.lemmas.List.{take_more, map-append}
 use Rattle.std.proofs.lemmas.List.Sums.{fold-append}
-use Rattle.std.specs.Global.{Vec}
-use Rattle.rule_forms.specs.declared.form.Tree.{Tree, Union, Intersect, Complement}
-use Rattle.rule_forms.specs.Forms.{plain_tree}
-use Rattle.decl_known.specs.Mentions.{Mention, leaves, variable_in, variables}
-use Rattle.decl_known.proofs.Gathering.{tree_leaves, union_leaves, intersect_leaves}
-use Rattle.decl_known.proofs.Gathering.{complement_leaves}
+use Rattle.decl_known.specs.declared.mentions.Mention.{Mention as Lent}
+use Rattle.decl_known.specs.Mentions.{Mention, variable_in, variables}
+use Rattle.decl_known.specs.Gathered.{mention_of, mentions_of}
 use Rattle.std.specs.List.{filter_map}
 
-abbrev pub tree_variables : Tree → List (List ℕ)
-tree_variables tree = variables (leaves (plain_tree tree))
-
-abbrev variables_of_one : Mention → List (List ℕ)
-variables_of_one m = filter_map variable_in m.atom.args
-
-variables_of_all : (trees : List Tree) → variables (flat_map tree_leaves trees)
-    ≡ flat_map tree_variables trees
-variables_of_all [] = refl
-variables_of_all (tree ∷ trees) =
-    flat_map-append variables_of_one (tree_leaves tree) (flat_map tree_leaves trees)
-    ∙ ap (λ ws. tree_variables tree ++ ws) (variables_of_all trees)
-
-pub union_variables : (v : Vec Tree) → tree_variables (Union v) ≡ flat_map tree_variables v.items
-union_variables v = ap variables (union_leaves v) ∙ variables_of_all v.items
-
-pub intersect_variables : (v : Vec Tree) → tree_variables (Intersect v) ≡ flat_map tree_variables
-    v.items
-intersect_variables v = ap variables (intersect_leaves v) ∙ variables_of_all v.items
-
-pub complement_variables : (b : _) (v : Vec Tree) → tree_variables (Complement b v)
-    ≡ tree_variables b.value ++ flat_map tree_variables v.items
-complement_variables b v =
-    ap variables (complement_leaves b v)
-    ∙ flat_map-append variables_of_one (tree_leaves b.value) (flat_map tree_leaves v.items)
-    ∙ ap (λ ws. tree_variables b.value ++ ws) (variables_of_all v.items)
+pub variables_of_both : (xs ys : List Lent) → variables (mentions_of (xs ++ ys))
+    ≡ variables (mentions_of xs) ++ variables (mentions_of ys)
+variables_of_both xs ys =
+    ap variables (map-append mention_of xs ys)
+    ∙ flat_map-append (λ (m : Mention). filter_map variable_in m.atom.args) (mentions_of xs)
+    (mentions_of ys)
 
 -- ---- a value that takes what some items of a list give
 

@@ -3,6 +3,7 @@
 use Rattle.std.specs.Prelude.{◌≡◌, ℕ, true, false, List, [], ◌∷◌, map, codes, Option, Some, None}
 use Rattle.std.specs.Prelude.{refl}
 use Rattle.rt_base.specs.declared.limit.Limit.TheVariants as limit
+use Rattle.ground_types.specs.declared.plan.Plan.{Plan}
 use Rattle.ground_types.specs.declared.program.Domain.{Domain}
 use Rattle.ground_types.specs.declared.program.Name.{Name}
 use Rattle.ground_types.specs.declared.program.NameKind.{NameKind}
@@ -38,6 +39,9 @@ domains = record { word = codes "ship"; entities = codes "x" ∷ codes "y" ∷ [
       codes "port";
   entities = codes "y" ∷ codes "z" ∷ codes "x" ∷ [];
 } ∷ []
+
+abbrev plan : Plan
+plan = record { window = 10; step = 5; from = 0; queries = 1024 }
 
 abbrev named : List ℕ → NameKind → List ℕ → List (List ℕ) → Name
 named word kind args values = record {
@@ -159,7 +163,7 @@ second_enters_third = refl
 
 abbrev program : Program
 program = record {
-  plan = record { window = 10; step = 5; from = 0; queries = 1024 };
+  plan = plan;
   domains =
       domains;
   names = names;
@@ -269,7 +273,7 @@ port_rules =
 
 abbrev port : PlainChecked
 port = record {
-  plan = record { window = 10; step = 5; from = 0; queries = 1024 };
+  plan = plan;
   domains =
       domains;
   names = port_names;

@@ -43,30 +43,16 @@ pub(crate) fn clauses_of<'k, 'a>(
     Ok(clauses)
 }
 
-// The units of a description over its numbered names and its statements, if these and the rows are
-// within the limits.
-fn units_within(
-    alloc: Global,
-    checked: &Checked,
-    names: &[Name],
-    clauses: &[Clause],
-) -> Result<Vec<Unit>, GroundRefused>
-    requires checked { IsSoundChecked checked.now }
-    requires names { names.now ≡ numbered_names (plain_checked checked.now) }
-    requires few { first_exceeded (name_tests checked.now.domains checked.now.names) ≡ None }
-    requires clauses { map clause_of clauses.now ≡ all_clauses (plain_checked checked.now) }
-    ensures tests { Tests result (first_exceeded
-        (clause_tests (all_clauses (plain_checked checked.now)) ++ row_tests checked.now.domains
-        checked.now.names checked.now.plan.queries)) }
-    ensures units { IfOk result (λ units. map plain_unit units.items ≡ units_of checked.now.domains
-        names.now (flat_map instances (all_clauses (plain_checked checked.now)))) }
+// Tests how many assignments, instances, conditions and rows a description comes to, of which these
+// are the statements.
+fn test_instances(alloc: Global, checked: &Checked, clauses: &[Clause]) -> Result<(), GroundRefused>
+    requires { IsSoundChecked checked.now }
+    ensures { Tests result (first_exceeded (clause_tests (map clause_of clauses.now)
+        ++ row_tests checked.now.domains checked.now.names checked.now.plan.queries)) }
 {
-    let domains = checked.domains.as_slice();
-    let declared = checked.names.as_slice();
     test_clauses(alloc, clauses)?;
-    test_rows(domains, declared, checked.plan.queries)?;
-    let count = unit_count(domains, declared) as usize;
-    Ok(units_of(alloc, domains, names, clauses, count)?)
+    let domains = checked.domains.as_slice();
+    test_rows(domains, checked.names.as_slice(), checked.plan.queries)
 }
 
 // The units of a description over its names, which are numbered, if its statements and rows are
@@ -85,7 +71,9 @@ fn units_over(alloc: Global, checked: &Checked, names: &[Name]) -> Result<Vec<Un
     let known = Known::new(alloc, domains, names)?;
     let rules = checked.rules.as_slice();
     let clauses = clauses_of(alloc, &known, &*rules)?;
-    units_within(alloc, checked, names, clauses.as_slice())
+    test_instances(alloc, checked, clauses.as_slice())?;
+    let count = unit_count(domains, checked.names.as_slice()) as usize;
+    Ok(units_of(alloc, domains, names, clauses.as_slice(), count)?)
 }
 
 // Copies of a description's domains, and the layers of its units.

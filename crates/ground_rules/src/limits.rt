@@ -1,9 +1,9 @@
 // The limits on what a description comes to.
-ghost use Rattle.std.specs.Prelude.{◌≡◌, ◌≤◌, ◌*◌, nat_lt, true, map, flat_map, filter, length, Ok};
+ghost use Rattle.std.specs.Prelude.{◌≡◌, ◌≤◌, ◌*◌, nat_lt, true, map, filter, length, Ok};
 ghost use Rattle.std.specs.Prelude.{Err, IfOk, if◌then◌else◌};
 ghost use Rattle.std.specs.List.{list_all};
-ghost use Rattle.rule_forms.specs.Forms.{plain_form, plain_tree};
-ghost use Rattle.decl_known.specs.Mentions.{leaves, leaves_of};
+ghost use Rattle.rule_forms.specs.Forms.{plain_form};
+ghost use Rattle.decl_known.specs.Mentions.{leaves_of};
 ghost use Rattle.decl_known.specs.Sound.{is_sound_domain};
 ghost use Rattle.ground_names.specs.Counted.{capped};
 ghost use Rattle.ground_rules.specs.Assignments.{assignments, instances};
@@ -19,10 +19,11 @@ ghost use Rattle.ground_rules.specs.declared.refused.GroundRefused.TheVariants.{
 use crate::clause::Clause;
 use crate::instance::Instance;
 use crate::refused::GroundRefused;
+use decl_known::{Mention, gather};
 use ground_names::count_arguments;
 use ground_types::{Domain, Name, NameKind, is_input};
 use rt_base::{Limit, OutOfMemory};
-use rule_forms::{Body, Form, Tree, conditions_of};
+use rule_forms::{Body, Form, conditions_of};
 use std::alloc::Global;
 
 // How many units there are, or the greatest number where there are more; so it is with each count
@@ -129,41 +130,13 @@ fn is_condition(body: &Body) -> bool
     !matches!(body, Body::Unequal(..))
 }
 
-// How many fluent-values an expression has.
-#[cycle(leaves)]
-fn leaf_count(tree: &Tree) -> u64
-    ensures { result ≡ capped (length (leaves (plain_tree tree.now))) }
+// How many fluent-values the expression of a statement has, 0 where it has none, with a list in
+// which atoms are gathered.
+fn leaves_in<'a>(form: &'a Form, atoms: &mut Vec<Mention<'a>>) -> Result<u64, OutOfMemory>
+    ensures { IfOk result (λ count. count ≡ capped (length (leaves_of (plain_form form.now)))) }
 {
-    match tree {
-        Tree::Leaf(_) => 1,
-        Tree::Union(members) => leaves_of_all(members),
-        Tree::Intersect(members) => leaves_of_all(members),
-        Tree::Complement(first, others) => {
-            leaf_count(first).saturating_add(leaves_of_all(others))
-        }
-    }
-}
-
-// How many fluent-values some expressions have.
-#[cycle(leaves)]
-fn leaves_of_all(trees: &[Tree]) -> u64
-    ensures { result ≡ capped (length (flat_map (λ tree. leaves (plain_tree tree)) trees.now)) }
-{
-    let mut count: u64 = 0;
-    for tree in trees {
-        count = count.saturating_add(leaf_count(tree));
-    }
-    count
-}
-
-// How many fluent-values the expression of a statement has, 0 where it has none.
-fn leaves_in(form: &Form) -> u64
-    ensures { result ≡ capped (length (leaves_of (plain_form form.now))) }
-{
-    match form {
-        Form::HoldsFor(_, tree) => leaf_count(tree),
-        _ => 0,
-    }
+    let others = gather(form, atoms)?;
+    Ok((atoms.len() - others) as u64)
 }
 
 // How many of the conditions are not `\=`.
@@ -179,11 +152,13 @@ fn condition_count(bodies: &[Body]) -> u64
     count
 }
 
-// How many conditions without `\=`, or leaves, a statement has.
-fn conditions_in(form: &Form) -> u64
-    ensures { result ≡ capped (conditions_in (plain_form form.now)) }
+// How many conditions without `\=`, or leaves, a statement has, with a list in which atoms are
+// gathered.
+fn conditions_in<'a>(form: &'a Form, atoms: &mut Vec<Mention<'a>>) -> Result<u64, OutOfMemory>
+    ensures { IfOk result (λ count. count ≡ capped (conditions_in (plain_form form.now))) }
 {
-    condition_count(conditions_of(form)).saturating_add(leaves_in(form))
+    let leaves = leaves_in(form, atoms)?;
+    Ok(condition_count(conditions_of(form)).saturating_add(leaves))
 }
 
 // What the instances of some statements come to.
@@ -206,11 +181,12 @@ fn totals_of(alloc: Global, clauses: &[Clause]) -> Result<Totals, OutOfMemory>
         conditions: 0,
     };
     let mut assignment = Vec::new(alloc);
+    let mut atoms = Vec::new(alloc);
     for clause in clauses {
         let count = instances_in(clause, &mut assignment)?;
         let form = clause.form();
         totals.rules = totals.rules.saturating_add(rules_among(form, count));
-        let conditions = count.saturating_mul(conditions_in(form));
+        let conditions = count.saturating_mul(conditions_in(form, &mut atoms)?);
         totals.conditions = totals.conditions.saturating_add(conditions);
     }
     Ok(totals)

@@ -1,12 +1,14 @@
 // The variables of a statement, each once, in the order of their first occurrence.
 ghost use Rattle.std.specs.Prelude.{◌≡◌, ◌∷◌, ◌++◌, [], map, flat_map, filter_map, fold, IfOk};
-ghost use Rattle.rule_forms.specs.Forms.{plain_form, plain_tree, conditions_of};
+ghost use Rattle.rule_forms.specs.Forms.{plain_form, conditions_of};
 ghost use Rattle.ground_types.specs.Words.{has};
-ghost use Rattle.decl_known.specs.Mentions.{leaves, variable_in, variables, head_of, leaves_of};
+ghost use Rattle.decl_known.specs.Mentions.{variable_in, variables, head_of, leaves_of};
+ghost use Rattle.decl_known.specs.Gathered.{mentions_of};
 ghost use Rattle.ground_rules.specs.Assignments.{variables_in, with_word, variables_of};
 
+use decl_known::{Mention, gather};
 use rt_base::{OutOfMemory, Word};
-use rule_forms::{Atom, Body, Form, Term, Tree, atom_of};
+use rule_forms::{Atom, Body, Form, Term, atom_of};
 use std::alloc::Global;
 
 // Whether a word is one of others.
@@ -64,32 +66,13 @@ fn add_condition<'a>(body: &'a Body, into: &mut Vec<&'a Word>) -> Result<(), Out
     }
 }
 
-// Adds the variables of an expression.
-#[cycle(leaves)]
-fn add_leaves<'a>(tree: &'a Tree, into: &mut Vec<&'a Word>) -> Result<(), OutOfMemory>
+// Adds the variables of some atoms.
+fn add_atoms<'a>(mentions: &[Mention<'a>], into: &mut Vec<&'a Word>) -> Result<(), OutOfMemory>
     ensures { IfOk result (λ _. map (λ other. other.now) into.new.items ≡ fold with_word
-        (map (λ other. other.now) into.old.items) (variables (leaves (plain_tree tree.now)))) }
+        (map (λ other. other.now) into.old.items) (variables (mentions_of mentions.now))) }
 {
-    match tree {
-        Tree::Leaf(fv) => add_atom(&fv.atom, into),
-        Tree::Union(members) => add_all_leaves(members, into),
-        Tree::Intersect(members) => add_all_leaves(members, into),
-        Tree::Complement(first, others) => {
-            add_leaves(first, into)?;
-            add_all_leaves(others, into)
-        }
-    }
-}
-
-// Adds the variables of expressions.
-#[cycle(leaves)]
-fn add_all_leaves<'a>(trees: &'a [Tree], into: &mut Vec<&'a Word>) -> Result<(), OutOfMemory>
-    ensures { IfOk result (λ _. map (λ other. other.now) into.new.items ≡ fold with_word
-        (map (λ other. other.now) into.old.items)
-        (flat_map (λ tree. variables (leaves (plain_tree tree))) trees.now)) }
-{
-    for tree in trees {
-        add_leaves(tree, into)?;
+    for mention in mentions {
+        add_atom(mention.atom, into)?;
     }
     Ok(())
 }
@@ -119,8 +102,13 @@ fn add_rule<'a>(
     add_conditions(bodies, into)
 }
 
-// Adds the variables of a statement.
-fn add_form<'a>(form: &'a Form, into: &mut Vec<&'a Word>) -> Result<(), OutOfMemory>
+// Adds the variables of a statement, of whose expression these are the leaves.
+fn add_form<'a>(
+    form: &'a Form,
+    leaves: &[Mention<'a>],
+    into: &mut Vec<&'a Word>,
+) -> Result<(), OutOfMemory>
+    requires { mentions_of leaves.now ≡ leaves_of (plain_form form.now) }
     ensures { IfOk result (λ _. map (λ other. other.now) into.new.items ≡ fold with_word
         (map (λ other. other.now) into.old.items) (variables (head_of (plain_form form.now))
         ++ (flat_map variables_in (conditions_of (plain_form form.now))
@@ -131,9 +119,9 @@ fn add_form<'a>(form: &'a Form, into: &mut Vec<&'a Word>) -> Result<(), OutOfMem
         Form::Initiated(fv, bodies) => add_rule(&fv.atom, bodies.as_slice(), into),
         Form::Terminated(fv, bodies) => add_rule(&fv.atom, bodies.as_slice(), into),
         Form::Happens(atom, bodies) => add_rule(atom, bodies.as_slice(), into),
-        Form::HoldsFor(fv, tree) => {
+        Form::HoldsFor(fv, _) => {
             add_atom(&fv.atom, into)?;
-            add_leaves(tree, into)
+            add_atoms(leaves, into)
         }
         _ => Ok(()),
     }
@@ -144,7 +132,9 @@ pub(crate) fn variables_of<'a>(alloc: Global, form: &'a Form) -> Result<Vec<&'a 
     ensures { IfOk result (λ found. map (λ word. word.now) found.items
         ≡ variables_of (plain_form form.now)) }
 {
+    let mut atoms = Vec::new(alloc);
+    let others = gather(form, &mut atoms)?;
     let mut found = Vec::new(alloc);
-    add_form(form, &mut found)?;
+    add_form(form, &atoms[others..], &mut found)?;
     Ok(found)
 }
