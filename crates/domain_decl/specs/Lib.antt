@@ -10,5 +10,7 @@ pub mod Declarations
 pub mod Passes
 pub mod Accepted
 pub mod Testing
+pub mod Parts
+pub mod Wrong
 pub mod Loose
 pub mod Examples

@@ -1,18 +1,19 @@
 // The tests of rules.
-ghost use Rattle.std.specs.Prelude.{◌≡◌, ◌++◌, ◌≤◌, true, map, length, take, drop, flat_map, zip};
-ghost use Rattle.std.specs.Prelude.{option_copied};
+ghost use Rattle.std.specs.Prelude.{◌≡◌, ◌++◌, true, map, zip, option_copied};
 ghost use Rattle.std.specs.List.{list_any};
 ghost use Rattle.ground_types.specs.Sound.{is_distinct};
-ghost use Rattle.rule_forms.specs.Forms.{plain_form, plain, conditions_of};
+ghost use Rattle.rule_forms.specs.Forms.{plain_form, plain};
 ghost use Rattle.ground_types.specs.Words.{has, domain_words, name_words};
 ghost use Rattle.decl_known.specs.Faults.{refused_at};
-ghost use Rattle.decl_known.specs.Mentions.{fits, head_of, leaves_of, body_mentions, mentions};
+ghost use Rattle.decl_known.specs.Mentions.{fits, leaves_of};
 ghost use Rattle.decl_known.specs.Rules.{has_too_many, begins_with_trigger, lacks_trigger};
-ghost use Rattle.decl_known.specs.Rules.{names_undeclared, is_of_wrong_kind, has_wrong_arity};
-ghost use Rattle.decl_known.specs.Rules.{is_foreign, lacks_value, has_undeclared_word, places};
+ghost use Rattle.decl_known.specs.Rules.{is_of_wrong_kind, has_wrong_arity, is_foreign};
+ghost use Rattle.decl_known.specs.Rules.{lacks_value, has_undeclared_word};
 ghost use Rattle.decl_known.specs.Rules.{rule_fault, rule_refusal};
 ghost use Rattle.domain_decl.specs.Testing.{Tests, word_fault};
-ghost use Rattle.decl_known.specs.Gathered.{role_of, mention_of, mentions_of, places_of};
+ghost use Rattle.domain_decl.specs.Wrong.{is_wrong};
+ghost use Rattle.domain_decl.specs.Parts.{ArePartsOf};
+ghost use Rattle.decl_known.specs.Gathered.{role_of, mention_of, mentions_of};
 
 use crate::variables::{has_clash, has_loose_variable};
 use decl_known::{DeclRefused, Known, Mention, Place, Role, gather, gather_places};
@@ -20,6 +21,15 @@ use ground_types::{Domain, Name, NameKind};
 use rt_base::Word;
 use rule_forms::{Body, Form, Statement, Term, conditions_of};
 use std::alloc::Global;
+
+// What is gathered from a statement: its atoms, of which so many stand before its leaves, and the
+// places of its variables.
+#[derive(Drop)]
+struct Parts<'p, 'a> {
+    atoms: &'p [Mention<'a>],
+    others: usize,
+    variables: &'p [Place<'a>],
+}
 
 fn has_too_many(form: &Form, leaves: &[Mention]) -> bool
     requires { mentions_of leaves.now ≡ leaves_of (plain_form form.now) }
@@ -125,111 +135,82 @@ fn has_undeclared_word(known: &Known, mention: &Mention) -> bool
     }
 }
 
-// Whether one of some atoms has a name that is declared nowhere.
-fn any_undeclared(known: &Known, mentions: &[Mention]) -> bool
-    ensures { result ≡ list_any (names_undeclared known.now.domains.now known.now.names.now)
+// What may be wrong with an atom.
+#[derive(Clone, Copy)]
+enum Wrong {
+    // Its name is declared nowhere.
+    Undeclared,
+    Kind,
+    Arity,
+    // Its value, or an entity in it, is none of those that are declared.
+    Words,
+}
+
+fn is_wrong(known: &Known, wrong: Wrong, mention: &Mention) -> bool
+    ensures { result ≡ is_wrong wrong known.now.domains.now known.now.names.now
+        (mention_of mention.now) }
+{
+    match wrong {
+        Wrong::Undeclared => !known.is_declared(&mention.atom.name),
+        Wrong::Kind => is_of_wrong_kind(known, mention),
+        Wrong::Arity => has_wrong_arity(known, mention),
+        Wrong::Words => has_undeclared_word(known, mention),
+    }
+}
+
+// Whether this is wrong with one of some atoms.
+fn any_wrong(known: &Known, wrong: Wrong, mentions: &[Mention]) -> bool
+    ensures { result ≡ list_any (is_wrong wrong known.now.domains.now known.now.names.now)
         (mentions_of mentions.now) }
 {
     mentions
         .iter()
-        .any(|mention| !known.is_declared(&mention.atom.name))
-}
-
-fn any_of_wrong_kind(known: &Known, mentions: &[Mention]) -> bool
-    ensures { result ≡ list_any (is_of_wrong_kind known.now.names.now) (mentions_of mentions.now) }
-{
-    mentions
-        .iter()
-        .any(|mention| is_of_wrong_kind(known, mention))
-}
-
-fn any_of_wrong_arity(known: &Known, mentions: &[Mention]) -> bool
-    ensures { result ≡ list_any (has_wrong_arity known.now.names.now) (mentions_of mentions.now) }
-{
-    mentions
-        .iter()
-        .any(|mention| has_wrong_arity(known, mention))
-}
-
-fn any_undeclared_word(known: &Known, mentions: &[Mention]) -> bool
-    ensures { result ≡ list_any (has_undeclared_word known.now.domains.now known.now.names.now)
-        (mentions_of mentions.now) }
-{
-    mentions
-        .iter()
-        .any(|mention| has_undeclared_word(known, mention))
+        .any(|mention| is_wrong(known, wrong, mention))
 }
 
 // Tests what stands in the atoms of a statement whose names are declared and of their kinds.
-fn test_words(
-    known: &Known,
-    statement: &Statement,
-    atoms: &[Mention],
-    others: usize,
-    variables: &[Place],
-) -> Result<(), DeclRefused>
-    requires all { mentions_of atoms.now ≡ mentions (plain_form statement.now.form) }
-    requires within { others ≤ length atoms.now }
-    requires others { mentions_of (take others atoms.now) ≡ head_of (plain_form statement.now.form)
-        ++ flat_map body_mentions (conditions_of (plain_form statement.now.form)) }
-    requires leaves { mentions_of (drop others atoms.now)
-        ≡ leaves_of (plain_form statement.now.form) }
-    requires places { places_of variables.now ≡ places known.now.names.now
-        (plain_form statement.now.form) }
+fn test_words(known: &Known, statement: &Statement, parts: &Parts) -> Result<(), DeclRefused>
+    requires { ArePartsOf known.now.names.now (plain_form statement.now.form) parts.now }
     ensures { Tests result (refused_at (word_fault known.now.domains.now known.now.names.now
         (plain_form statement.now.form)) statement.now.line None) }
 {
     let line = statement.line;
-    if any_of_wrong_arity(known, atoms) {
+    if any_wrong(known, Wrong::Arity, parts.atoms) {
         return Err(DeclRefused::Arity { line });
     }
-    if any_undeclared_word(known, atoms) {
+    if any_wrong(known, Wrong::Words, parts.atoms) {
         return Err(DeclRefused::Undeclared { line });
     }
-    if has_clash(variables) {
+    if has_clash(parts.variables) {
         return Err(DeclRefused::Clash { line });
     }
-    if has_loose_variable(&statement.form, atoms, others) {
+    if has_loose_variable(&statement.form, parts.atoms, parts.others) {
         return Err(DeclRefused::Loose { line });
     }
     Ok(())
 }
 
-// Tests a statement whose atoms are these, so many of them before its leaves, and whose variables
-// stand at these places.
-fn test_parts(
-    known: &Known,
-    statement: &Statement,
-    atoms: &[Mention],
-    others: usize,
-    variables: &[Place],
-) -> Result<(), DeclRefused>
-    requires all { mentions_of atoms.now ≡ mentions (plain_form statement.now.form) }
-    requires within { others ≤ length atoms.now }
-    requires others { mentions_of (take others atoms.now) ≡ head_of (plain_form statement.now.form)
-        ++ flat_map body_mentions (conditions_of (plain_form statement.now.form)) }
-    requires leaves { mentions_of (drop others atoms.now)
-        ≡ leaves_of (plain_form statement.now.form) }
-    requires places { places_of variables.now ≡ places known.now.names.now
-        (plain_form statement.now.form) }
+// Tests a statement, of which these are the parts.
+fn test_parts(known: &Known, statement: &Statement, parts: &Parts) -> Result<(), DeclRefused>
+    requires { ArePartsOf known.now.names.now (plain_form statement.now.form) parts.now }
     ensures { Tests result (refused_at (rule_fault known.now.domains.now known.now.names.now
         (plain_form statement.now.form)) statement.now.line None) }
 {
     let line = statement.line;
     let form = &statement.form;
-    if has_too_many(form, &atoms[others..]) {
+    if has_too_many(form, &parts.atoms[parts.others..]) {
         return Err(DeclRefused::TooMany { line });
     }
     if lacks_trigger(form) {
         return Err(DeclRefused::NoTrigger { line });
     }
-    if any_undeclared(known, atoms) {
+    if any_wrong(known, Wrong::Undeclared, parts.atoms) {
         return Err(DeclRefused::Undeclared { line });
     }
-    if any_of_wrong_kind(known, atoms) {
+    if any_wrong(known, Wrong::Kind, parts.atoms) {
         return Err(DeclRefused::WrongKind { line });
     }
-    test_words(known, statement, atoms, others, variables)
+    test_words(known, statement, parts)
 }
 
 // Tests a statement, with two lists in which its parts are gathered.
@@ -244,7 +225,12 @@ fn test_rule<'a>(
 {
     let others = gather(&statement.form, atoms)?;
     gather_places(known, atoms, variables)?;
-    test_parts(known, statement, atoms, others, variables)
+    let parts = Parts {
+        atoms: atoms.as_slice(),
+        others,
+        variables: variables.as_slice(),
+    };
+    test_parts(known, statement, &parts)
 }
 
 // Tests the statements that define fluents and derived events, in the order of the text, over what

@@ -1,15 +1,13 @@
 // The variables of a rule that stand at places of two domains, or have to stand elsewhere too.
-ghost use Rattle.std.specs.Prelude.{◌≡◌, ◌++◌, ◌≤◌, not, length, take, drop, flat_map, filter_map};
-ghost use Rattle.std.specs.Prelude.{zip, option_map, option_to_list, IfOk};
+ghost use Rattle.std.specs.Prelude.{◌≡◌, not, flat_map};
 ghost use Rattle.std.specs.List.{list_any};
-ghost use Rattle.rule_forms.specs.Forms.{plain_form, conditions_of};
-ghost use Rattle.ground_types.specs.Words.{has, declaration};
-ghost use Rattle.decl_known.specs.Mentions.{body_mentions, head_of, leaves_of, mentions};
-ghost use Rattle.decl_known.specs.Mentions.{variable_in, variables};
-ghost use Rattle.decl_known.specs.Rules.{variable_at, places_by, places, clash, compared};
-ghost use Rattle.decl_known.specs.Rules.{has_loose_variable};
-ghost use Rattle.decl_known.specs.Gathered.{mention_of, mentions_of, place_of, places_of};
+ghost use Rattle.rule_forms.specs.Forms.{plain_form};
+ghost use Rattle.ground_types.specs.Words.{has};
+ghost use Rattle.decl_known.specs.Mentions.{variables};
+ghost use Rattle.decl_known.specs.Rules.{clash, compared, has_loose_variable};
+ghost use Rattle.decl_known.specs.Gathered.{mentions_of, place_of, places_of};
 ghost use Rattle.domain_decl.specs.Loose.{is_variable, is_loose};
+ghost use Rattle.domain_decl.specs.Parts.{AreAtoms};
 
 use decl_known::{Mention, Place};
 use rt_base::Word;
@@ -108,11 +106,7 @@ fn any_compared_loose(bodies: &[Body], mentions: &[Mention]) -> bool
 // atoms are those of the statement, and this many of them stand before its leaves.
 #[tactic(auto, using(crate::proofs::Loose::loose_by_parts))]
 pub(crate) fn has_loose_variable(form: &Form, atoms: &[Mention], others: usize) -> bool
-    requires within { others ≤ length atoms.now }
-    requires all { mentions_of atoms.now ≡ mentions (plain_form form.now) }
-    requires others { mentions_of (take others atoms.now) ≡ head_of (plain_form form.now)
-        ++ flat_map body_mentions (conditions_of (plain_form form.now)) }
-    requires leaves { mentions_of (drop others atoms.now) ≡ leaves_of (plain_form form.now) }
+    requires { AreAtoms (plain_form form.now) atoms.now others }
     ensures { result ≡ has_loose_variable (plain_form form.now) }
 {
     let (front, leaves) = atoms.split_at(others);
