@@ -16,13 +16,10 @@ use Rattle.rule_forms.specs.Forms.{Initiated, Terminated, Happens, HoldsFor, con
 use Rattle.rule_forms.specs.Sound.{AllOf}
 use Rattle.ground_types.specs.Words.{has, place_in, name_words}
 use Rattle.decl_known.proofs.ComputedKinds.{simple_computed, static_computed, derived_computed}
-use Rattle.decl_known.specs.Faults.{Fault, first_fault}
 use Rattle.decl_known.specs.Mentions.{SimpleFluent, StaticFluent, DerivedEvent, Mention, fits}
-use Rattle.decl_known.specs.Mentions.{head_of, body_mentions, leaves_of, mentions}
-use Rattle.decl_known.specs.Rules.{has_too_many, lacks_trigger, names_undeclared, differs_in_kind}
-use Rattle.decl_known.specs.Rules.{is_of_wrong_kind, has_wrong_arity, has_undeclared_word}
-use Rattle.decl_known.specs.Rules.{has_clash, has_loose_variable, rule_fault}
-use Rattle.decl_known.specs.declared.checked.DeclRefused.TheVariants as refused
+use Rattle.decl_known.specs.Mentions.{head_of, body_mentions, leaves_of}
+use Rattle.decl_known.specs.Rules.{differs_in_kind, is_of_wrong_kind, rule_fault}
+use Rattle.decl_known.proofs.Faultless.{passes}
 use Rattle.decl_known.specs.Sound.{IsSoundRule}
 use Rattle.word_table.proofs.LookUps.{declaration_by_place, no_declaration_by_place, same_word}
 use Rattle.decl_known.specs.Occurrences.{defines, body_of, bodies_of, occurs}
@@ -35,31 +32,13 @@ pub record IsHead (names : List Name) (word : List ℕ) : Type 0 where
   pub at : slice_get names place ≡ Some name
   pub computed : is_input name.kind ≡ false
 
-fourth_false : (a b c d : Bool) (f g h i : Fault) (rest : List (Bool × Fault))
-    → first_fault ((a, f) ∷ (b, g) ∷ (c, h) ∷ (d, i) ∷ rest) ≡ None → d ≡ false
-fourth_false true b c d f g h i rest e = absurd (cc)
-fourth_false false true c d f g h i rest e = absurd (cc)
-fourth_false false false true d f g h i rest e = absurd (cc)
-fourth_false false false false true f g h i rest e = absurd (cc)
-fourth_false false false false false f g h i rest e = refl
-
-right_kinds : (domains : List Domain) (names : List Name) (form : PlainForm)
-    → rule_fault domains names form ≡ None → list_any (is_of_wrong_kind names) (mentions form)
-    ≡ false
-right_kinds domains names form h =
-    fourth_false (has_too_many form) (lacks_trigger form)
-    (list_any (names_undeclared domains names) (mentions form))
-    (list_any (is_of_wrong_kind names) (mentions form)) _ _ _ _
-    ((list_any (has_wrong_arity names) (mentions form), refused.Arity)
-    ∷ (list_any (has_undeclared_word domains names) (mentions form), refused.Undeclared)
-    ∷ (has_clash names form, refused.Clash) ∷ (has_loose_variable form, refused.Loose) ∷ []) h
-
-data HasHead (form : PlainForm) : Type 0 where
+-- a statement has no head, or one that is no input
+pub data HasHead (form : PlainForm) : Type 0 where
   no_head : head_of form ≡ [] → HasHead form
   one_head : (m : Mention) → head_of form ≡ m ∷ [] → ((kind : NameKind) → fits m.role kind ≡ true
       → is_input kind ≡ false) → HasHead form
 
-heads : (form : PlainForm) → HasHead form
+pub heads : (form : PlainForm) → HasHead form
 heads (Window n) = no_head refl
 heads (Step n) = no_head refl
 heads (From n) = no_head refl
@@ -120,7 +99,7 @@ defined domains names form word sound def (one_head m e kinds) =
     let right : is_of_wrong_kind names m ≡ false =
     or_left (is_of_wrong_kind names m) (list_any (is_of_wrong_kind names) behind)
     (sym (ap (λ hs. list_any (is_of_wrong_kind names) (hs ++ behind)) e)
-    ∙ right_kinds domains names form sound) in
+    ∙ (passes domains names form sound).kinds) in
     subst (IsHead names) same (by_place names m kinds right (place_in (name_words names)
     m.atom.name) refl)
 

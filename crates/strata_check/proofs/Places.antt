@@ -15,9 +15,7 @@ use Rattle.std.specs.List.{list_any, position_or_len, cons_option}
 use Rattle.std.specs.Str.{bytes_eq}
 use Rattle.ground_types.specs.declared.program.Name.{Name}
 use Rattle.ground_types.specs.Sound.{is_distinct}
-use Rattle.rule_forms.specs.Forms.{PlainForm, PlainStatement, Window, Step, From, Queries, Domain}
-use Rattle.rule_forms.specs.Forms.{Input, Simple, Static, Derived, Initially, Initiated, Terminated}
-use Rattle.rule_forms.specs.Forms.{Happens, HoldsFor, conditions_of}
+use Rattle.rule_forms.specs.Forms.{PlainForm, PlainStatement, conditions_of}
 use Rattle.ground_types.specs.Words.{place_in, name_words}
 use Rattle.decl_known.specs.Mentions.{Mention, head_of, body_mentions, leaves_of}
 use Rattle.decl_known.specs.declared.mentions.Mention.{Mention as Lent}
@@ -27,6 +25,7 @@ use Rattle.strata_check.specs.Rows.{row_at, places_of, mention_places, body_plac
 use Rattle.strata_check.specs.Rows.{with_rule, AreRows}
 use Rattle.word_table.proofs.LookUps.{same_word, equal_word, place_here, word_there, word_of_name}
 use Rattle.strata_check.proofs.Marks.{set_cases, set_same}
+use Rattle.strata_check.proofs.Heads.{HasHead, no_head, one_head, heads}
 
 -- ---- the names of atoms that are lent
 
@@ -38,26 +37,6 @@ names_lent names (m ∷ ms) = ap (cons_option (place_in (name_words names) m.ato
     (names_lent names ms)
 
 -- ---- rows, one rule after the other
-
-data IsOneHead (form : PlainForm) : Type 0 where
-  no_head : head_of form ≡ [] → IsOneHead form
-  one_head : (m : Mention) → head_of form ≡ m ∷ [] → IsOneHead form
-
-one_heads : (form : PlainForm) → IsOneHead form
-one_heads (Window n) = no_head refl
-one_heads (Step n) = no_head refl
-one_heads (From n) = no_head refl
-one_heads (Queries n) = no_head refl
-one_heads (Domain name entities) = no_head refl
-one_heads (Input decl) = no_head refl
-one_heads (Simple decl values) = no_head refl
-one_heads (Static decl values) = no_head refl
-one_heads (Derived decl) = no_head refl
-one_heads (Initially fv) = one_head _ refl
-one_heads (Initiated fv bodies) = one_head _ refl
-one_heads (Terminated fv bodies) = one_head _ refl
-one_heads (Happens atom bodies) = one_head _ refl
-one_heads (HoldsFor fv e) = one_head _ refl
 
 places_of_mentions : (names : List Name) (ms : List Mention)
     → places_of names (map (λ m. m.atom.name) ms) ≡ mention_places names ms
@@ -114,13 +93,13 @@ module _ (names : List Name) (distinct : is_distinct (name_words names) ≡ true
             true≢false (sym (equal_word w name.word same) ∙ f))
       ]
 
-  by_heads : IsOneHead form → slice_get (with_rule names rows form) place
+  by_heads : HasHead form → slice_get (with_rule names rows form) place
       ≡ Some (row ++ added (defines name.word form))
   by_heads (no_head e) =
       ap (λ hs. slice_get (add_at rows (mention_places names hs) (body_places names form)) place) e
       ∙ held
       ∙ keeps (defines name.word form) (ap (list_any (λ m. bytes_eq m.atom.name name.word)) e)
-  by_heads (one_head m e) =
+  by_heads (one_head m e computed) =
       let test : defines name.word form ≡ bytes_eq m.atom.name name.word =
       ap (list_any (λ k. bytes_eq k.atom.name name.word)) e
       ∙ or_false (bytes_eq m.atom.name name.word) in
@@ -135,7 +114,7 @@ module _ (names : List Name) (distinct : is_distinct (name_words names) ≡ true
 
   pub row_with_rule : slice_get (with_rule names rows form) place
       ≡ Some (row ++ added (defines name.word form))
-  row_with_rule = by_heads (one_heads form)
+  row_with_rule = by_heads (heads form)
 
 add_length : (rows : List (List ℕ)) (hs more : List ℕ) → length (add_at rows hs more) ≡ length rows
 add_length rows [] more = refl

@@ -21,11 +21,14 @@ pub(crate) enum Mark {
     Done { layer: u32 },
 }
 
-// The names and their rows.
-#[derive(Clone, Copy)]
+// The names and their rows, one for each name, which hold places of names.
+#[derive(Drop)]
 pub(crate) struct Graph<'a> {
     pub names: &'a [Name],
     pub rows: &'a [Row],
+    ghost few: { length names.now < 2 ^ 32 },
+    ghost inside: { AreInside rows.now },
+    ghost named: { length names.now ≡ length rows.now },
 }
 
 // A place at which the walk stands, and how far it has come there.
@@ -114,7 +117,6 @@ fn pass(
 
 // Gives the place its layer.
 fn finish(graph: &Graph, marks: &mut Vec<Mark>, below: &[usize], at: Standing)
-    requires few { length graph.now.names.now < 2 ^ 32 }
     requires walking { IsWalking graph.now.names.now graph.now.rows.now marks.old.items
         (at.place ∷ reverse below.now) }
     requires standing { slice_get marks.old.items at.place ≡ Some (Open at.next at.greatest) }
@@ -135,7 +137,6 @@ fn look(
     at: Standing,
     other: usize,
 ) -> Result<bool, OutOfMemory>
-    requires inside { AreInside graph.now.rows.now }
     requires walking { IsWalking graph.now.names.now graph.now.rows.now marks.old.items
         (at.place ∷ reverse below.old.items) }
     requires standing { slice_get marks.old.items at.place ≡ Some (Open at.next at.greatest) }
@@ -165,8 +166,6 @@ fn step(
     below: &mut Vec<usize>,
     place: usize,
 ) -> Result<bool, OutOfMemory>
-    requires few { length graph.now.names.now < 2 ^ 32 }
-    requires inside { AreInside graph.now.rows.now }
     requires walking { IsWalking graph.now.names.now graph.now.rows.now marks.old.items
         (place ∷ reverse below.old.items) }
     ensures { IfOk result (λ met. MatchBool met (HasCircle graph.now.rows.now)
@@ -200,8 +199,6 @@ fn walk_from(
     marks: &mut Vec<Mark>,
     start: usize,
 ) -> Result<bool, OutOfMemory>
-    requires few { length graph.now.names.now < 2 ^ 32 }
-    requires inside { AreInside graph.now.rows.now }
     requires walking { IsWalking graph.now.names.now graph.now.rows.now marks.old.items [] }
     requires new { slice_get marks.old.items start ≡ Some New }
     ensures { IfOk result (λ met. MatchBool met (HasCircle graph.now.rows.now)
@@ -246,8 +243,6 @@ fn visit(
     marks: &mut Vec<Mark>,
     start: usize,
 ) -> Result<bool, OutOfMemory>
-    requires few { length graph.now.names.now < 2 ^ 32 }
-    requires inside { AreInside graph.now.rows.now }
     requires walking { IsWalking graph.now.names.now graph.now.rows.now marks.old.items [] }
     requires start { start < length graph.now.names.now }
     ensures { IfOk result (λ met. MatchBool met (HasCircle graph.now.rows.now)
@@ -263,9 +258,6 @@ fn visit(
 
 // Gives each name its layer, unless one leads to itself.
 pub(crate) fn walk(alloc: Global, graph: &Graph) -> Result<Option<Vec<Mark>>, OutOfMemory>
-    requires few { length graph.now.names.now < 2 ^ 32 }
-    requires inside { AreInside graph.now.rows.now }
-    requires named { length graph.now.names.now ≡ length graph.now.rows.now }
     ensures { IfOk result (λ marks. MatchOption marks (HasCircle graph.now.rows.now) (λ marks.
         AllDone graph.now.names.now graph.now.rows.now marks.items)) }
 {

@@ -11,15 +11,21 @@ use Rattle.strata_check.specs.Walks.{AllDone}
 use Rattle.strata_check.proofs.Heads.{has_head}
 use Rattle.strata_check.proofs.Chains.{inside, first_cycle}
 use Rattle.strata_check.proofs.Layered.{is_layering, none_reaches, given}
+use Rattle.strata_check.proofs.layering.layers.Goals.{After-as_slice-rows}
 use Rattle.strata_check.proofs.layering.layers.Goals as goal
 
-pub walk-requires-clause-inside : goal.walk-requires-clause-inside
-walk-requires-clause-inside c =
+-- the rows hold places of names
+are_inside : (c : After-as_slice-rows) → AreInside c.as_slice-rows.result.now
+are_inside c =
     let checked = c.args.checked.now in
     let distinct = is_distinct-back (domain_words checked.domains) (name_words checked.names)
     c.requires.distinct in
     subst AreInside (sym c.as_slice-rows.ensures.value) (inside (map plain checked.rules)
     checked.names c.in_ok-list.list.items distinct c.in_ok-list.ensures)
+
+pub invariant_of-graph-clause-inside : goal.invariant_of-graph-clause-inside
+invariant_of-graph-clause-inside c =
+    are_inside (goal.at.invariant_of-graph-clause-inside c).After-as_slice-rows
 
 pub returns-in-Some-clause-layers : goal.returns-in-Some-clause-layers
 returns-in-Some-clause-layers c =
@@ -46,11 +52,7 @@ returns-in-Some-clause-none c =
 
 pub first_circle-requires-clause-inside : goal.first_circle-requires-clause-inside
 first_circle-requires-clause-inside c =
-    let checked = c.args.checked.now in
-    let distinct = is_distinct-back (domain_words checked.domains) (name_words checked.names)
-    c.requires.distinct in
-    subst AreInside (sym c.as_slice-rows.ensures.value) (inside (map plain checked.rules)
-    checked.names c.in_ok-list.list.items distinct c.in_ok-list.ensures)
+    are_inside (goal.at.first_circle-requires-clause-inside c).After-as_slice-rows
 
 pub returns-clause-cyclic : goal.returns-clause-cyclic
 returns-clause-cyclic c =

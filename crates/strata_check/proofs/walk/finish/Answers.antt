@@ -10,7 +10,7 @@ layer_over-layer-requires c =
     let low = top_low graph.names.now graph.rows.now c.args.marks.now.items c.args.at.place
     (reverse c.args.below.now) c.requires.walking c.args.at.next c.args.at.greatest
     c.requires.standing in
-    omega (arith, low.1, c.requires.walking.few, c.requires.walking.named, c.requires.few)
+    omega (arith, low.1, c.requires.walking.few, c.requires.walking.named, graph.few)
 
 pub index_mut-requires : goal.index_mut-requires
 index_mut-requires c =

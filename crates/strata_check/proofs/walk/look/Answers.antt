@@ -5,25 +5,28 @@ use Rattle.strata_check.proofs.walk.look.Goals as goal
 
 pub index-requires : goal.index-requires
 index-requires c =
-    let inside = c.requires.inside c.args.at.place c.args.other (c.args.at.next, c.requires.next) in
+    let inside = c.args.graph.now.inside c.args.at.place c.args.other
+    (c.args.at.next, c.requires.next) in
     omega (arith, c.requires.walking.few, c.args.marks.now.ok.0)
 
 pub enter-requires-clause-new : goal.enter-requires-clause-new
 enter-requires-clause-new c =
-    let inside = c.requires.inside c.args.at.place c.args.other (c.args.at.next, c.requires.next) in
+    let inside = c.args.graph.now.inside c.args.at.place c.args.other
+    (c.args.at.next, c.requires.next) in
     mark_at c.args.marks.now.items c.args.other c.index.result.now _
     (omega (arith, c.requires.walking.few)) c.index.ensures c.in-New.is
 
 pub pass-requires-clause-done : goal.pass-requires-clause-done
 pass-requires-clause-done c =
-    let inside = c.requires.inside c.args.at.place c.args.other (c.args.at.next, c.requires.next) in
+    let inside = c.args.graph.now.inside c.args.at.place c.args.other
+    (c.args.at.next, c.requires.next) in
     mark_at c.args.marks.now.items c.args.other c.index.result.now _
     (omega (arith, c.requires.walking.few)) c.index.ensures c.in-Done.is
 
 pub returns-in-Open : goal.returns-in-Open
 returns-in-Open c =
-    let names = c.requires.next in
-    let inside = c.requires.inside c.args.at.place c.args.other (c.args.at.next, c.requires.next) in
+    let inside = c.args.graph.now.inside c.args.at.place c.args.other
+    (c.args.at.next, c.requires.next) in
     let at = mark_at c.args.marks.now.items c.args.other c.index.result.now
     (Open c.in-Open.next c.in-Open.greatest) (omega (arith, c.requires.walking.few))
     c.index.ensures c.in-Open.is in (
