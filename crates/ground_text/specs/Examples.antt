@@ -3,6 +3,8 @@
 use Rattle.std.specs.Prelude.{◌≡◌, ℕ, true, List, [], ◌∷◌, codes, Ok, refl}
 use Rattle.std.specs.Fmt.{digits}
 use Rattle.ground_types.specs.declared.plan.Plan.{Plan}
+use Rattle.ground_types.specs.declared.program.Name.{Name}
+use Rattle.ground_types.specs.declared.program.NameKind.{NameKind}
 use Rattle.ground_types.specs.declared.program.NameKind.TheVariants as name_kind
 use Rattle.rule_forms.specs.declared.form.Decl.{Decl}
 use Rattle.rule_forms.specs.declared.form.Term.{Term}
@@ -35,6 +37,16 @@ happens name args = body.Happens true (event.Plain (record { name = name; args =
 abbrev variable : List ℕ → Term
 variable word = term.Variable word
 
+abbrev named : List ℕ → NameKind → List ℕ → List (List ℕ) → ℕ → Name
+named word kind args values line = record {
+  word = word;
+  kind = kind;
+  args = args;
+  values = values;
+  first = 0;
+  line = line;
+}
+
 abbrev plan : Plan
 plan = record { window = 10; step = 5; from = 0; queries = 1024 }
 
@@ -58,30 +70,9 @@ lamp_checked = record {
   plan = plan;
   domains = [];
   names =
-      record {
-        word = codes "up";
-        kind = name_kind.Input;
-        args = [];
-        values = [];
-        first = 0;
-        line = 4;
-      }
-      ∷ record {
-        word = codes "down";
-        kind = name_kind.Input;
-        args = [];
-        values = [];
-        first = 0;
-        line = 5;
-      }
-      ∷ record {
-        word = codes "on";
-        kind = name_kind.Simple;
-        args = [];
-        values = codes "true" ∷ [];
-        first = 0;
-        line = 6;
-      }
+      named (codes "up") name_kind.Input [] [] 4
+      ∷ named (codes "down") name_kind.Input [] [] 5
+      ∷ named (codes "on") name_kind.Simple [] (codes "true" ∷ []) 6
       ∷ [];
   rules =
       on_line 7 (Initiated on (happens (codes "up") [] ∷ []))
@@ -127,23 +118,8 @@ meeting_checked = record {
   plan = plan;
   domains = record { word = codes "v"; entities = codes "x" ∷ [] } ∷ [];
   names =
-      record {
-        word = codes "near";
-        kind = name_kind.Input;
-        args = 0 ∷ 0 ∷ [];
-        values = [];
-        first = 0;
-        line = 4;
-      }
-      ∷ record {
-        word = codes "met";
-        kind = name_kind.Simple;
-        args = 0 ∷ 0 ∷ [];
-        values =
-            codes "true" ∷ [];
-        first = 0;
-        line = 5;
-      }
+      named (codes "near") name_kind.Input (0 ∷ 0 ∷ []) [] 4
+      ∷ named (codes "met") name_kind.Simple (0 ∷ 0 ∷ []) (codes "true" ∷ []) 5
       ∷ [];
   rules = meeting_rule ∷ [];
 }
@@ -191,32 +167,9 @@ seeing_checked = record {
   plan = plan;
   domains = record { word = codes "v"; entities = codes "x" ∷ codes "y" ∷ [] } ∷ [];
   names =
-      record {
-        word = codes "found";
-        kind = name_kind.Static;
-        args = [];
-        values =
-            codes "true" ∷ [];
-        first = 0;
-        line = 4;
-      }
-      ∷ record {
-        word = codes "seen";
-        kind = name_kind.Simple;
-        args = 0 ∷ [];
-        values =
-            codes "yes" ∷ codes "no" ∷ [];
-        first = 0;
-        line = 5;
-      }
-      ∷ record {
-        word = codes "sight";
-        kind = name_kind.Input;
-        args = 0 ∷ [];
-        values = [];
-        first = 0;
-        line = 6;
-      }
+      named (codes "found") name_kind.Static [] (codes "true" ∷ []) 4
+      ∷ named (codes "seen") name_kind.Simple (0 ∷ []) (codes "yes" ∷ codes "no" ∷ []) 5
+      ∷ named (codes "sight") name_kind.Input (0 ∷ []) [] 6
       ∷ [];
   rules = seeing_rules;
 }

@@ -155,93 +155,90 @@ fn put_instances(
     Ok(())
 }
 
-// Adds the lines of a unit of a layer, which has this number.
-fn put_unit(
+// What is listed: a program, and the instances that define its units.
+#[derive(Drop)]
+struct Listing<'p, 'i, 'k, 'a> {
     alloc: Global,
-    out: &mut Vec<u8>,
-    program: &Program,
-    instances: &Instances,
-    layer: usize,
-    number: UnitId,
-    unit: &Unit,
-) -> Result<(), OutOfMemory>
-    requires { number < unit_bound instances.now }
-    ensures { OnOk result (out.new.items
-        ≡ out.old.items ++ unit_text program.now.domains program.now.names layer
-        (plain_unit unit.now) (listed_at instances.now number)) }
-{
-    put_all(
-        out,
-        &[
-            Piece::Text("layer "),
-            Piece::Number(layer as u64),
-            Piece::Text(" "),
-        ],
-    )?;
-    put_unit_atom(out, program, unit)?;
-    put_text(out, "\n")?;
-    put_initially(alloc, out, program, unit)?;
-    put_instances(alloc, out, instances, number)
+    program: &'p Program,
+    instances: &'i Instances<'k, 'a>,
+    ghost bounded: { length program.now.units ≤ unit_bound instances.now },
 }
 
-// Adds the lines of the unit of a number, and nothing where there is none.
-fn put_numbered(
-    alloc: Global,
-    out: &mut Vec<u8>,
-    program: &Program,
-    instances: &Instances,
-    layer: usize,
-    number: UnitId,
-) -> Result<(), OutOfMemory>
-    requires { length program.now.units ≤ unit_bound instances.now }
-    ensures { OnOk result (out.new.items
-        ≡ out.old.items
-        ++ numbered_text program.now.domains program.now.names layer
-        (option_map plain_unit (slice_get program.now.units number))
-        (listed_at instances.now number)) }
-{
-    match program.units.as_slice().get(number as usize) {
-        Some(unit) => put_unit(alloc, out, program, instances, layer, number, unit),
-        None => Ok(()),
+impl<'p, 'i, 'k, 'a> Listing<'p, 'i, 'k, 'a> {
+    // Adds the lines of a unit of a layer, which has this number.
+    fn put_unit(
+        &self,
+        out: &mut Vec<u8>,
+        layer: usize,
+        number: UnitId,
+        unit: &Unit,
+    ) -> Result<(), OutOfMemory>
+        requires { number < unit_bound self.now.instances.now }
+        ensures { OnOk result (out.new.items
+            ≡ out.old.items ++ unit_text self.now.program.now.domains self.now.program.now.names
+            layer (plain_unit unit.now) (listed_at self.now.instances.now number)) }
+    {
+        put_all(
+            out,
+            &[
+                Piece::Text("layer "),
+                Piece::Number(layer as u64),
+                Piece::Text(" "),
+            ],
+        )?;
+        put_unit_atom(out, self.program, unit)?;
+        put_text(out, "\n")?;
+        put_initially(self.alloc, out, self.program, unit)?;
+        put_instances(self.alloc, out, self.instances, number)
     }
-}
 
-// Adds the lines of the units of a layer.
-fn put_layer(
-    alloc: Global,
-    out: &mut Vec<u8>,
-    program: &Program,
-    instances: &Instances,
-    layer: usize,
-    units: &[UnitId],
-) -> Result<(), OutOfMemory>
-    requires { length program.now.units ≤ unit_bound instances.now }
-    ensures { OnOk result (out.new.items
-        ≡ out.old.items ++ layer_text (plain_program program.now)
-        (flat_map instances_of (clauses_in instances.now)) (layer, units.now)) }
-{
-    for unit in units {
-        put_numbered(alloc, out, program, instances, layer, *unit)?;
+    // Adds the lines of the unit of a number, and nothing where there is none.
+    fn put_numbered(
+        &self,
+        out: &mut Vec<u8>,
+        layer: usize,
+        number: UnitId,
+    ) -> Result<(), OutOfMemory>
+        ensures { OnOk result (out.new.items
+            ≡ out.old.items
+            ++ numbered_text self.now.program.now.domains self.now.program.now.names layer
+            (option_map plain_unit (slice_get self.now.program.now.units number))
+            (listed_at self.now.instances.now number)) }
+    {
+        match self.program.units.as_slice().get(number as usize) {
+            Some(unit) => self.put_unit(out, layer, number, unit),
+            None => Ok(()),
+        }
     }
-    Ok(())
-}
 
-// Adds the lines of all layers.
-fn put_layers(
-    alloc: Global,
-    out: &mut Vec<u8>,
-    program: &Program,
-    instances: &Instances,
-) -> Result<(), OutOfMemory>
-    requires { length program.now.units ≤ unit_bound instances.now }
-    ensures { OnOk result (out.new.items
-        ≡ out.old.items ++ layers_text (plain_program program.now)
-        (flat_map instances_of (clauses_in instances.now))) }
-{
-    for (place, units) in program.layers.as_slice().iter().enumerate() {
-        put_layer(alloc, out, program, instances, place + 1, units.as_slice())?;
+    // Adds the lines of the units of a layer.
+    fn put_layer(
+        &self,
+        out: &mut Vec<u8>,
+        layer: usize,
+        units: &[UnitId],
+    ) -> Result<(), OutOfMemory>
+        ensures { OnOk result (out.new.items
+            ≡ out.old.items ++ layer_text (plain_program self.now.program.now)
+            (flat_map instances_of (clauses_in self.now.instances.now)) (layer, units.now)) }
+    {
+        for unit in units {
+            self.put_numbered(out, layer, *unit)?;
+        }
+        Ok(())
     }
-    Ok(())
+
+    // Adds the lines of all layers.
+    fn put_layers(&self, out: &mut Vec<u8>) -> Result<(), OutOfMemory>
+        ensures { OnOk result (out.new.items
+            ≡ out.old.items ++ layers_text (plain_program self.now.program.now)
+            (flat_map instances_of (clauses_in self.now.instances.now))) }
+    {
+        for (place, units) in self.program.layers.as_slice().iter().enumerate() {
+            self.put_layer(out, place + 1, units.as_slice())?;
+        }
+        Ok(())
+    }
 }
 
 // Adds how much there is of what, and the lines of all layers.
@@ -260,7 +257,12 @@ fn put_listed(
         (flat_map instances_of (clauses_in instances.now))) }
 {
     put_counts(out, program, instances.rule_count())?;
-    put_layers(alloc, out, program, instances)
+    let listing = Listing {
+        alloc,
+        program,
+        instances,
+    };
+    listing.put_layers(out)
 }
 
 // Adds how much there is of what, and the lines of all layers, over instances that are made of what
