@@ -48,16 +48,77 @@ pub(crate) fn put_comma<'a>(out: &mut Vec<Token<'a>>, turn: usize) -> Result<(),
     put_mark(out, Mark::Comma)
 }
 
-// Words with commas between them.
-fn put_words<'a>(out: &mut Vec<Token<'a>>, words: &'a [Word]) -> Result<(), OutOfMemory>
+// What stands in lists, and how a member is spelled.
+pub(crate) trait Printed {
+    ghost use Rattle.std.specs.Prelude.{List};
+    ghost use Rattle.rule_read.specs.Tokens.{Token as Part};
+
+    ghost spelled: { Self → List Part };
+
+    fn put<'a>(&'a self, out: &mut Vec<Token<'a>>) -> Result<(), OutOfMemory>
+        ensures { OnOk result (tokens out.new.items ≡ tokens out.old.items ++ spelled self.now) };
+}
+
+impl Printed for Word {
+    ghost spelled = { word_tokens };
+
+    fn put<'a>(&'a self, out: &mut Vec<Token<'a>>) -> Result<(), OutOfMemory> {
+        put_word(out, self)
+    }
+}
+
+impl Printed for Term {
+    ghost spelled = { term_tokens };
+
+    fn put<'a>(&'a self, out: &mut Vec<Token<'a>>) -> Result<(), OutOfMemory> {
+        match self {
+            Term::Entity(word) => put_word(out, word),
+            Term::Variable(word) => put_word(out, word),
+        }
+    }
+}
+
+impl Printed for Body {
+    ghost spelled = { body_tokens };
+
+    fn put<'a>(&'a self, out: &mut Vec<Token<'a>>) -> Result<(), OutOfMemory> {
+        match self {
+            Body::Happens { positive, event } => put_happens(out, *positive, event),
+            Body::Holds { positive, fv } => put_holds(out, *positive, fv),
+            Body::Unequal(one, other) => put_unequal(out, one, other),
+        }
+    }
+}
+
+// Members with commas between them.
+pub(crate) fn put_members<'a, T: Printed>(
+    out: &mut Vec<Token<'a>>,
+    members: &'a [T],
+) -> Result<(), OutOfMemory>
     ensures { OnOk result (tokens out.new.items ≡ tokens out.old.items ++ commas
-        (map word_tokens words.now)) }
+        (map T.spelled members.now)) }
 {
-    for (turn, word) in words.iter().enumerate() {
+    for (turn, member) in members.iter().enumerate() {
         put_comma(out, turn)?;
-        put_word(out, word)?;
+        member.put(out)?;
     }
     Ok(())
+}
+
+// Members in parentheses, which are left out where there are none.
+fn put_arguments<'a, T: Printed>(
+    out: &mut Vec<Token<'a>>,
+    members: &'a [T],
+) -> Result<(), OutOfMemory>
+    ensures { OnOk result (tokens out.new.items ≡ tokens out.old.items ++ arguments
+        (map T.spelled members.now)) }
+{
+    if members.is_empty() {
+        return Ok(());
+    }
+    put_mark(out, Mark::Open)?;
+    put_members(out, members)?;
+    put_mark(out, Mark::Close)
 }
 
 // Words in brackets.
@@ -69,62 +130,15 @@ pub(crate) fn put_row<'a>(
         (map word_tokens words.now)) }
 {
     put_mark(out, Mark::OpenList)?;
-    put_words(out, words.as_slice())?;
+    put_members(out, words.as_slice())?;
     put_mark(out, Mark::CloseList)
-}
-
-// Words in parentheses, which are left out where there are none.
-fn put_domains<'a>(out: &mut Vec<Token<'a>>, words: &'a [Word]) -> Result<(), OutOfMemory>
-    ensures { OnOk result (tokens out.new.items ≡ tokens out.old.items ++ arguments
-        (map word_tokens words.now)) }
-{
-    if words.is_empty() {
-        return Ok(());
-    }
-    put_mark(out, Mark::Open)?;
-    put_words(out, words)?;
-    put_mark(out, Mark::Close)
 }
 
 pub(crate) fn put_decl<'a>(out: &mut Vec<Token<'a>>, decl: &'a Decl) -> Result<(), OutOfMemory>
     ensures { OnOk result (tokens out.new.items ≡ tokens out.old.items ++ decl_tokens decl.now) }
 {
     put_word(out, &decl.name)?;
-    put_domains(out, decl.args.as_slice())
-}
-
-fn put_term<'a>(out: &mut Vec<Token<'a>>, term: &'a Term) -> Result<(), OutOfMemory>
-    ensures { OnOk result (tokens out.new.items ≡ tokens out.old.items ++ term_tokens term.now) }
-{
-    match term {
-        Term::Entity(word) => put_word(out, word),
-        Term::Variable(word) => put_word(out, word),
-    }
-}
-
-// Terms with commas between them.
-fn put_terms<'a>(out: &mut Vec<Token<'a>>, terms: &'a [Term]) -> Result<(), OutOfMemory>
-    ensures { OnOk result (tokens out.new.items ≡ tokens out.old.items ++ commas
-        (map term_tokens terms.now)) }
-{
-    for (turn, term) in terms.iter().enumerate() {
-        put_comma(out, turn)?;
-        put_term(out, term)?;
-    }
-    Ok(())
-}
-
-// Terms in parentheses, which are left out where there are none.
-fn put_arguments<'a>(out: &mut Vec<Token<'a>>, terms: &'a [Term]) -> Result<(), OutOfMemory>
-    ensures { OnOk result (tokens out.new.items ≡ tokens out.old.items ++ arguments
-        (map term_tokens terms.now)) }
-{
-    if terms.is_empty() {
-        return Ok(());
-    }
-    put_mark(out, Mark::Open)?;
-    put_terms(out, terms)?;
-    put_mark(out, Mark::Close)
+    put_arguments(out, decl.args.as_slice())
 }
 
 pub(crate) fn put_atom<'a>(out: &mut Vec<Token<'a>>, atom: &'a Atom) -> Result<(), OutOfMemory>
@@ -225,29 +239,4 @@ fn put_unequal<'a>(
     put_word(out, one)?;
     put_mark(out, Mark::Differs)?;
     put_word(out, other)
-}
-
-fn put_body<'a>(out: &mut Vec<Token<'a>>, body: &'a Body) -> Result<(), OutOfMemory>
-    ensures { OnOk result (tokens out.new.items ≡ tokens out.old.items ++ body_tokens body.now) }
-{
-    match body {
-        Body::Happens { positive, event } => put_happens(out, *positive, event),
-        Body::Holds { positive, fv } => put_holds(out, *positive, fv),
-        Body::Unequal(one, other) => put_unequal(out, one, other),
-    }
-}
-
-// Conditions with commas between them.
-pub(crate) fn put_bodies<'a>(
-    out: &mut Vec<Token<'a>>,
-    bodies: &'a [Body],
-) -> Result<(), OutOfMemory>
-    ensures { OnOk result (tokens out.new.items ≡ tokens out.old.items ++ commas
-        (map body_tokens bodies.now)) }
-{
-    for (turn, body) in bodies.iter().enumerate() {
-        put_comma(out, turn)?;
-        put_body(out, body)?;
-    }
-    Ok(())
 }

@@ -15,7 +15,7 @@ ghost use Rattle.rule_read.specs.Whole.{reading, longest, Statements};
 use crate::keyword::{Keyword, text_of};
 use crate::line::put_line;
 use crate::printer::{
-    put_bodies, put_decl, put_head, put_held, put_key, put_mark, put_row, put_word,
+    put_decl, put_head, put_held, put_key, put_mark, put_members, put_row, put_word,
 };
 use crate::token::{Mark, Token};
 use crate::tree_printer::put_tree;
@@ -127,7 +127,7 @@ fn print_rule<'a>(
     put_key(line, word)?;
     put_held(line, fv)?;
     put_mark(line, Mark::If)?;
-    put_bodies(line, bodies.as_slice())?;
+    put_members(line, bodies.as_slice())?;
     put_line(out, line.as_slice())
 }
 
@@ -144,7 +144,7 @@ fn print_event_rule<'a>(
     put_key(line, Keyword::HappensAt)?;
     put_head(line, atom)?;
     put_mark(line, Mark::If)?;
-    put_bodies(line, bodies.as_slice())?;
+    put_members(line, bodies.as_slice())?;
     put_line(out, line.as_slice())
 }
 
