@@ -1,7 +1,7 @@
 -- Rising points, and those of them at which spans hold.
 use Rattle.std.proofs.Common.{◌≡◌, ◌⊎◌, inl, inr, ℕ, ◌+◌, ◌<◌, ◌≤◌, Bool, true, false, cond, List}
 use Rattle.std.proofs.Common.{[], ◌∷◌, ◌++◌, filter, Some, None, refl, sym, ◌∙◌, ap, arith}
-use Rattle.std.proofs.Common.{append_assoc, append-nil}
+use Rattle.std.proofs.Common.{append_assoc, append-nil, subst}
 use Rattle.span_algebra.specs.declared.spans.Span.{Span}
 use Rattle.span_algebra.specs.Normal.{IsNormal, IsRising, IsRisingFrom, covers}
 use Rattle.span_algebra.specs.Walk.{front_of, after_front}
@@ -78,42 +78,35 @@ cutting_end within points spans ps out c (inl is) = sym (append-nil out) ∙ rw 
 cutting_end within points spans ps out c (inr is) =
     sym (append-nil out) ∙ ap (λ (r : List ℕ). out ++ r) (sym (none_covered ps)) ∙ rw is at c.same
 
+first_and_rest : {X : Type 0} (x : X) (xs : List X) → Some x ≡ front_of xs
+    → x ∷ after_front xs ≡ xs
+first_and_rest x [] is = cc
+first_and_rest x (y ∷ ys) is = let same : x ≡ y = cc in ap (λ first. first ∷ ys) same
+
 -- the same, from what the calls of one turn ensure
-pub turn_span : (within : List Span) (points : List ℕ) (spans : List Span) (ps out : List ℕ)
-    (s : Span) (p : ℕ) →
-    IsCutting within points spans ps out → Some p ≡ front_of ps → Some s ≡ front_of spans
-    → s.until < p → IsCutting within points (after_front spans) ps out
-turn_span within points [] ps out s p c at is lt = cc
-turn_span within points (x ∷ xs) [] out s p c at is lt = cc
-turn_span within points (x ∷ xs) (y ∷ ys) out s p c at is lt =
-    let span : s ≡ x = cc in
-    let point : p ≡ y = cc in
-    cut_span within points x xs y ys out c (rw (← span, ← point) lt)
+module _ (within : List Span) (points : List ℕ) (spans : List Span) (ps out : List ℕ)
+    (s : Span) (p : ℕ) (c : IsCutting within points spans ps out) (point : Some p ≡ front_of ps)
+    (span : Some s ≡ front_of spans) where
+  by_fronts : IsCutting within points (s ∷ after_front spans) (p ∷ after_front ps) out
+  by_fronts = subst (λ xs. IsCutting within points xs (p ∷ after_front ps) out)
+      (sym (first_and_rest s spans span))
+      (subst (λ xs. IsCutting within points spans xs out) (sym (first_and_rest p ps point)) c)
 
-pub turn_take : (within : List Span) (points : List ℕ) (spans : List Span) (ps out : List ℕ)
-    (s : Span) (p : ℕ) →
-    IsCutting within points spans ps out → Some p ≡ front_of ps → Some s ≡ front_of spans
-    → p ≤ s.until → s.after < p →
-    IsCutting within points spans (after_front ps) (out ++ p ∷ [])
-turn_take within points [] ps out s p c at is le lt = cc
-turn_take within points (x ∷ xs) [] out s p c at is le lt = cc
-turn_take within points (x ∷ xs) (y ∷ ys) out s p c at is le lt =
-    let span : s ≡ x = cc in
-    let point : p ≡ y = cc in
-    rw point (cut_take within points x xs y ys out c (rw (← span, ← point) le)
-    (rw (← span, ← point) lt))
+  pub turn_span : s.until < p → IsCutting within points (after_front spans) ps out
+  turn_span lt = subst (λ xs. IsCutting within points (after_front spans) xs out)
+      (first_and_rest p ps point)
+      (cut_span within points s (after_front spans) p (after_front ps) out by_fronts lt)
 
-pub turn_leave : (within : List Span) (points : List ℕ) (spans : List Span) (ps out : List ℕ)
-    (s : Span) (p : ℕ) →
-    IsCutting within points spans ps out → Some p ≡ front_of ps → Some s ≡ front_of spans
-    → p ≤ s.after →
-    IsCutting within points spans (after_front ps) out
-turn_leave within points [] ps out s p c at is le = cc
-turn_leave within points (x ∷ xs) [] out s p c at is le = cc
-turn_leave within points (x ∷ xs) (y ∷ ys) out s p c at is le =
-    let span : s ≡ x = cc in
-    let point : p ≡ y = cc in
-    cut_leave within points x xs y ys out c (rw (← span, ← point) le)
+  pub turn_take : p ≤ s.until → s.after < p
+      → IsCutting within points spans (after_front ps) (out ++ p ∷ [])
+  turn_take le lt = subst (λ xs. IsCutting within points xs (after_front ps) (out ++ p ∷ []))
+      (first_and_rest s spans span)
+      (cut_take within points s (after_front spans) p (after_front ps) out by_fronts le lt)
+
+  pub turn_leave : p ≤ s.after → IsCutting within points spans (after_front ps) out
+  turn_leave le = subst (λ xs. IsCutting within points xs (after_front ps) out)
+      (first_and_rest s spans span)
+      (cut_leave within points s (after_front spans) p (after_front ps) out by_fronts le)
 
 pub no_front : {X : Type 0} (xs : List X) → None ≡ front_of xs → xs ≡ []
 no_front [] is = refl
