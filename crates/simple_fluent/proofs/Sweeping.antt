@@ -246,84 +246,78 @@ pub record IsEvent (opening : Option ℕ) (inits terms : List (List ℕ)) (w q :
   pub after : value opening inits terms w (at + 1) ≡ started firsts_left at
   pub ranged : IsValueBelow (length inits) (started firsts_left at)
 
-pub event_is : (opening : Option ℕ) (inits terms : List (List ℕ)) (w q : ℕ)
+module _ (opening : Option ℕ) (inits terms : List (List ℕ)) (w q : ℕ)
     (firsts_left : List First) (terms_left : List ℕ)
-    (rows : List (List Span)) (current : Option ℕ) (since top at : ℕ) →
-    AllByRecursion (IsInside w q) inits → AllByRecursion (IsInside w q) terms →
-    IsSweeping opening inits terms w q firsts_left terms_left rows current since top
-    → next_of firsts_left terms_left ≡ Some at →
-    IsEvent opening inits terms w q firsts_left terms_left rows current top at
-event_is opening inits terms w q firsts_left terms_left rows current since top at in_i in_t s is =
-    let n : IsNext firsts_left terms_left top at = next_is firsts_left terms_left top at
-    s.firsts_up s.terms_up is in
-    let p : IsPast firsts_left (past_first firsts_left at) at = past firsts_left at n.firsts_from in
-    let front : IsAtFront terms_left at (after_point terms_left at) =
-    at_front terms_left at n.terms_from in
-    let begins : least_with 0 inits at ≡ started firsts_left at = s.firsts_same at n.above
-    ∙ p.here in
-    let ends : ended terms current at ≡ begins_at terms_left at = s.terms_same at n.above
-    ∙ front.has in
-    let found : (is_some (started firsts_left at) || begins_at terms_left at) ≡ true =
-    rw (← starts_some firsts_left at) n.found in
-    let inside : IsIn w q at = in_by w q at (started firsts_left at) (begins_at terms_left at) found
-    (λ u e. least_inside w q 0 inits at u in_i (begins ∙ e)) (λ e. ended_inside w q terms current
-    at in_t (ends ∙ e)) in
-    let here : value opening inits terms w at ≡ current =
-    quiet_value opening inits terms w q firsts_left terms_left rows current since top at s
-    n.firsts_from n.terms_from at n.above (omega arith) in
-    record {
-      next = n;
-      inside = inside;
-      after = value_more opening inits terms w at inside.above
-          ∙ rw (here, begins, ends) (event_by (started firsts_left at) (begins_at terms_left at)
-          current found);
-      ranged = below_some (started firsts_left at) _ (λ u e. least_below 0 inits at u
-          (length inits) (omega arith) (begins ∙ e));
-    }
+    (rows : List (List Span)) (current : Option ℕ) (since top at : ℕ)
+    (in_i : AllByRecursion (IsInside w q) inits) (in_t : AllByRecursion (IsInside w q) terms)
+    (s : IsSweeping opening inits terms w q firsts_left terms_left rows current since top)
+    (is : next_of firsts_left terms_left ≡ Some at) where
+  pub event_is : IsEvent opening inits terms w q firsts_left terms_left rows current top at
+  event_is =
+      let n : IsNext firsts_left terms_left top at = next_is firsts_left terms_left top at
+      s.firsts_up s.terms_up is in
+      let p : IsPast firsts_left (past_first firsts_left at) at =
+      past firsts_left at n.firsts_from in
+      let front : IsAtFront terms_left at (after_point terms_left at) =
+      at_front terms_left at n.terms_from in
+      let begins : least_with 0 inits at ≡ started firsts_left at = s.firsts_same at n.above
+      ∙ p.here in
+      let ends : ended terms current at ≡ begins_at terms_left at = s.terms_same at n.above
+      ∙ front.has in
+      let found : (is_some (started firsts_left at) || begins_at terms_left at) ≡ true =
+      rw (← starts_some firsts_left at) n.found in
+      let inside : IsIn w q at =
+      in_by w q at (started firsts_left at) (begins_at terms_left at) found
+      (λ u e. least_inside w q 0 inits at u in_i (begins ∙ e)) (λ e. ended_inside w q terms current
+      at in_t (ends ∙ e)) in
+      let here : value opening inits terms w at ≡ current =
+      quiet_value opening inits terms w q firsts_left terms_left rows current since top at s
+      n.firsts_from n.terms_from at n.above (omega arith) in
+      record {
+        next = n;
+        inside = inside;
+        after = value_more opening inits terms w at inside.above
+            ∙ rw (here, begins, ends) (event_by (started firsts_left at) (begins_at terms_left at)
+            current found);
+        ranged = below_some (started firsts_left at) _ (λ u e. least_below 0 inits at u
+            (length inits) (omega arith) (begins ∙ e));
+      }
 
-pub sweeping_more : (opening : Option ℕ) (inits terms : List (List ℕ)) (w q : ℕ)
-    (firsts_left : List First) (terms_left : List ℕ)
-    (rows : List (List Span)) (current : Option ℕ) (since top at : ℕ) →
-    AllByRecursion (IsInside w q) inits → AllByRecursion (IsInside w q) terms →
-    IsSweeping opening inits terms w q firsts_left terms_left rows current since top
-    → next_of firsts_left terms_left ≡ Some at →
-    IsRising (terms_after terms terms_left current (started firsts_left at) at q) →
-    IsSweeping opening inits terms w q (past_first firsts_left at) (terms_after terms terms_left
-    current (started firsts_left at) at q)
-    (rows_after rows current since (started firsts_left at) at) (started firsts_left at)
-    (since_after current since (started firsts_left at) at) (at + 1)
-sweeping_more opening inits terms w q firsts_left terms_left rows current since top at in_i in_t s
-    is up =
-    let e : IsEvent opening inits terms w q firsts_left terms_left rows current top at =
-    event_is opening inits terms w q firsts_left terms_left rows current since top at in_i in_t s
-    is in
-    let n : IsNext firsts_left terms_left top at = e.next in
-    let p : IsPast firsts_left (past_first firsts_left at) at = past firsts_left at n.firsts_from in
-    record {
-      low = omega (arith, e.inside.above);
-      high = omega (arith, e.inside.within);
-      firsts_up = p.rises;
-      firsts_same = λ t le. s.firsts_same t (omega (arith, n.above))
-          ∙ p.same t (let no : eqb at t ≡ false = grind (arith, nat_tests) in no);
-      terms_up = later_by terms terms_left (started firsts_left at) at q
-          (is_same current (started firsts_left at)) n.terms_from up;
-      terms_same = terms_by w q terms terms_left current (started firsts_left at) top at
-          (is_same current (started firsts_left at)) in_t refl n.terms_from n.above s.terms_same;
-      now = e.after;
-      ranged = rw (count_next rows current (started firsts_left at) since at, s.count) e.ranged;
-      count = count_next rows current (started firsts_left at) since at ∙ s.count;
-      each = λ v lt. rw (
-        row_next rows current (started firsts_left at) since at v s.ranged,
-        begun_next current (started firsts_left at) since at v,
-        map-append pair (get_or rows v []) (closed_at (begun_of current since v)
-            (is_value (started firsts_left at) v) at),
-      )
-          (swept_past (has_value opening inits terms w v) w at (pairs (get_or rows v []))
-          (begun_of current since v) (is_value (started firsts_left at) v)
-          (quiet_rows opening inits terms w q firsts_left terms_left rows current since top at s
-          n.above n.firsts_from n.terms_from v lt)
-          (ap (λ (o : Option ℕ). is_value o v) e.after));
-    }
+  pub sweeping_more : IsRising (terms_after terms terms_left current (started firsts_left at) at q)
+      → IsSweeping opening inits terms w q (past_first firsts_left at) (terms_after terms terms_left
+      current (started firsts_left at) at q)
+      (rows_after rows current since (started firsts_left at) at) (started firsts_left at)
+      (since_after current since (started firsts_left at) at) (at + 1)
+  sweeping_more up =
+      let e = event_is in
+      let n : IsNext firsts_left terms_left top at = e.next in
+      let p : IsPast firsts_left (past_first firsts_left at) at =
+      past firsts_left at n.firsts_from in
+      record {
+        low = omega (arith, e.inside.above);
+        high = omega (arith, e.inside.within);
+        firsts_up = p.rises;
+        firsts_same = λ t le. s.firsts_same t (omega (arith, n.above))
+            ∙ p.same t (let no : eqb at t ≡ false = grind (arith, nat_tests) in no);
+        terms_up = later_by terms terms_left (started firsts_left at) at q
+            (is_same current (started firsts_left at)) n.terms_from up;
+        terms_same = terms_by w q terms terms_left current (started firsts_left at) top at
+            (is_same current (started firsts_left at)) in_t refl n.terms_from n.above s.terms_same;
+        now = e.after;
+        ranged = rw (count_next rows current (started firsts_left at) since at, s.count) e.ranged;
+        count = count_next rows current (started firsts_left at) since at ∙ s.count;
+        each = λ v lt. rw (
+          row_next rows current (started firsts_left at) since at v s.ranged,
+          begun_next current (started firsts_left at) since at v,
+          map-append pair (get_or rows v []) (closed_at (begun_of current since v)
+              (is_value (started firsts_left at) v) at),
+        )
+            (swept_past (has_value opening inits terms w v) w at (pairs (get_or rows v []))
+            (begun_of current since v) (is_value (started firsts_left at) v)
+            (quiet_rows opening inits terms w q firsts_left terms_left rows current since top at s
+            n.above n.firsts_from n.terms_from v lt)
+            (ap (λ (o : Option ℕ). is_value o v) e.after));
+      }
 
 -- the span of the value before can be closed
 begun_same : (c since : ℕ) → begun_of (Some c) since c ≡ Some since
