@@ -5,61 +5,39 @@ use Rattle.event_store.proofs.Lookups.{kept_found, kept_missing, standing_is, st
 use Rattle.event_store.proofs.Lookups.{written_again, stands_too, stood_still}
 use Rattle.event_store.proofs.store.EventStore.add.Goals as goal
 
-pub returns-in-Some-clause-changed : goal.returns-in-Some-clause-changed
-returns-in-Some-clause-changed c =
-    let found = standing_is c.args.event c.self.inside.by_event.entries
-    ∙ ap (λ k. k.points) (kept_found c.args.event c.self.inside.by_event.entries
-    c.in-Some.kept.now c.in-Some.ensures.value) in
-    rw (← c.self.view_is) (IfOk-weaker c.add.result _ _ (λ b is. is
-    ∙ ap (λ p. not (has p c.args.at)) (sym found)) c.add.ensures.changed)
-
-pub returns-in-Some-clause-standing : goal.returns-in-Some-clause-standing
-returns-in-Some-clause-standing c =
+pub returns-in-Some : goal.returns-in-Some
+returns-in-Some c =
     let old = c.self.inside.by_event.entries in
     let found = kept_found c.args.event old c.in-Some.kept.now c.in-Some.ensures.value in
-    rw (← c.self.view_is) (on_ok_weaker c.add.result (λ added.
-    stands_too c.args.event old (c.get_mut.follows.lender c.add.new.self).entries c.add.new.self
-    ((c.get_mut.follows.holds c.add.new.self).3 (subst IsSome c.in-Some.ensures.value refl)).0
-    c.args.at
-    (λ t. added t ∙ ap (λ k. has k.points t || (t == c.args.at)) (sym found)))
-    c.add.ensures.standing)
+    let follows = c.get_mut.follows.holds c.add.new.self in
+    let put = (follows.3 (subst IsSome c.in-Some.ensures.value refl)).0 in
+    rw (← c.self.view_is) (record {
+      changed = IfOk-weaker c.add.result _ _ (λ b is. is ∙ ap (λ p. not (has p c.args.at))
+          (sym (standing_is c.args.event old ∙ ap (λ k. k.points) found))) c.add.ensures.changed;
+      standing = on_ok_weaker c.add.result (λ added. stands_too c.args.event old
+          (c.get_mut.follows.lender c.add.new.self).entries c.add.new.self put c.args.at
+          (λ t. added t ∙ ap (λ k. has k.points t || (t == c.args.at)) (sym found)))
+          c.add.ensures.standing;
+      settled = on_ok_weaker c.add.result (λ same. stood_still c.args.event old
+          (c.get_mut.follows.lender c.add.new.self).entries c.add.new.self put
+          (λ t. same t ∙ ap (λ k. stood_at k t) (sym found))) c.add.ensures.settled;
+      refused = on_err_weaker c.add.result (λ same. follows.0 ∙ written_again c.args.event old
+          c.add.new.self (ap Some same ∙ c.in-Some.ensures.value)) c.add.ensures.refused;
+    })
 
-pub returns-in-Some-clause-settled : goal.returns-in-Some-clause-settled
-returns-in-Some-clause-settled c =
-    let old = c.self.inside.by_event.entries in
-    let found = kept_found c.args.event old c.in-Some.kept.now c.in-Some.ensures.value in
-    rw (← c.self.view_is) (on_ok_weaker c.add.result (λ same.
-    stood_still c.args.event old (c.get_mut.follows.lender c.add.new.self).entries c.add.new.self
-    ((c.get_mut.follows.holds c.add.new.self).3 (subst IsSome c.in-Some.ensures.value refl)).0
-    (λ t. same t ∙ ap (λ k. stood_at k t) (sym found))) c.add.ensures.settled)
-
-pub returns-in-Some-clause-refused : goal.returns-in-Some-clause-refused
-returns-in-Some-clause-refused c =
-    rw (← c.self.view_is) (on_err_weaker c.add.result (λ same.
-    (c.get_mut.follows.holds c.add.new.self).0 ∙ written_again c.args.event
-    c.self.inside.by_event.entries c.add.new.self (ap Some same ∙ c.in-Some.ensures.value))
-    c.add.ensures.refused)
-
-pub returns-clause-changed : goal.returns-clause-changed
-returns-clause-changed c =
-    let old = c.self.inside.by_event.entries in
-    rw (← c.self.view_is) (ap (λ p. not (has p c.args.at)) (sym (standing_is c.args.event old
-    ∙ ap (λ k. k.points) (kept_missing c.args.event old c.in_default.ensures.value))))
-
-pub returns-clause-standing : goal.returns-clause-standing
-returns-clause-standing c =
+pub returns : goal.returns
+returns c =
     let old = c.self.inside.by_event.entries in
     let missing = kept_missing c.args.event old c.in_default.ensures.value in
-    rw (← c.self.view_is) (stands_too c.args.event old c.insert.new.self.entries c.add-2.new.self
-    (rw c.get_mut.follows.holds-at-none at c.in_ok-insert.ensures.updates.0) c.args.at
-    (λ t. c.in_ok-add.ensures.standing t ∙ ap (λ k. has k.points t || (t == c.args.at))
-    (c.new-kept.ensures ∙ sym missing)))
-
-pub returns-clause-settled : goal.returns-clause-settled
-returns-clause-settled c =
-    let old = c.self.inside.by_event.entries in
-    let missing = kept_missing c.args.event old c.in_default.ensures.value in
-    rw (← c.self.view_is) (stood_still c.args.event old c.insert.new.self.entries c.add-2.new.self
-    (rw c.get_mut.follows.holds-at-none at c.in_ok-insert.ensures.updates.0)
-    (λ t. c.in_ok-add.ensures.settled t ∙ ap (λ k. stood_at k t) (c.new-kept.ensures
-    ∙ sym missing)))
+    let put = rw c.get_mut.follows.holds-at-none at c.in_ok-insert.ensures.updates.0 in
+    rw (← c.self.view_is) (record {
+      changed = ap (λ p. not (has p c.args.at))
+          (sym (standing_is c.args.event old ∙ ap (λ k. k.points) missing));
+      standing = stands_too c.args.event old c.insert.new.self.entries c.add-2.new.self put
+          c.args.at (λ t. c.in_ok-add.ensures.standing t
+          ∙ ap (λ k. has k.points t || (t == c.args.at)) (c.new-kept.ensures ∙ sym missing));
+      settled = stood_still c.args.event old c.insert.new.self.entries c.add-2.new.self put
+          (λ t. c.in_ok-add.ensures.settled t
+          ∙ ap (λ k. stood_at k t) (c.new-kept.ensures ∙ sym missing));
+      refused = tt;
+    })
