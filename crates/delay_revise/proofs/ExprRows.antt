@@ -5,7 +5,6 @@ use Rattle.std.proofs.Common.{slice_get, Some, refl, sym, ◌∙◌, ap, ap₂, 
 use Rattle.std.specs.List.{list_all, range_with_len}
 use Rattle.std.proofs.lemmas.Bool.Decides.{nat_tests}
 use Rattle.std.proofs.lemmas.List.{map-append, map_more}
-use Rattle.std.proofs.lemmas.List.Folds.{list_all-append}
 use Rattle.std.proofs.lemmas.Bool.{and_parts, eqb-true}
 use Rattle.ground_types.specs.Meaning.{units_of_expr, units_of_members}
 use Rattle.ground_types.specs.Publication.{fluent_rows, initial_of}
@@ -30,6 +29,7 @@ use Rattle.static_fluent.specs.Constructs.{has_rows, has_members, all_have_membe
 use Rattle.static_fluent.proofs.Inside.{expr_inside}
 use Rattle.delay_revise.specs.Working.{rows_over, IsInWindow}
 use Rattle.delay_revise.proofs.Alike.{row_alike}
+use Rattle.delay_revise.proofs.EachItem.{all_both}
 use Rattle.delay_revise.proofs.Expressions.{expr_told}
 use Rattle.delay_revise.proofs.LayerParts.{all_more}
 use Rattle.delay_revise.proofs.LookUp.{covers_pairs}
@@ -71,23 +71,17 @@ module _ (program : Program) where
         members_named members (and_parts (not (member_count members == 0))
         (members_fit program members) fits).1
     expr_named (Complement' p first shape others) fits =
-        list_all-append (λ unit. nat_lt unit (length program.units)) (units_of_expr first)
-        (units_of_members others)
-        ∙ ap₂ (λ (a b : Bool). a && b) (expr_named first (and_parts (expr_fits program first)
-        (members_fit program others) fits).0)
-        (members_named others (and_parts (expr_fits program first) (members_fit program others)
-        fits).1)
+        let fit = and_parts (expr_fits program first) (members_fit program others) fits in
+        all_both (λ unit. nat_lt unit (length program.units)) (units_of_expr first)
+        (units_of_members others) (expr_named first fit.0) (members_named others fit.1)
 
     members_named : {m : _} (members : Row_of-Expr m) → members_fit program members ≡ true →
         list_all (λ unit. nat_lt unit (length program.units)) (units_of_members members) ≡ true
     members_named end_of-Expr fits = refl
     members_named (more_of-Expr member rest) fits =
-        list_all-append (λ unit. nat_lt unit (length program.units)) (units_of_expr member)
-        (units_of_members rest)
-        ∙ ap₂ (λ (a b : Bool). a && b) (expr_named member (and_parts (expr_fits program member)
-        (members_fit program rest) fits).0)
-        (members_named rest (and_parts (expr_fits program member) (members_fit program rest)
-        fits).1)
+        let fit = and_parts (expr_fits program member) (members_fit program rest) fits in
+        all_both (λ unit. nat_lt unit (length program.units)) (units_of_expr member)
+        (units_of_members rest) (expr_named member fit.0) (members_named rest fit.1)
 
 -- what is known of a statically determined fluent whose expressions fit
 pub record IsStatic (count values : ℕ) (exprs : List Expr) : Type 0 where

@@ -1,8 +1,7 @@
 -- Expressions over the rows of units that are worked are true where they are in query 0.
 use Rattle.std.proofs.Common.{◌≡◌, ℕ, zero, suc, ◌+◌, ◌<◌, ◌≤◌, Bool, true, not, ◌&&◌, ◌||◌, ◌==◌}
-use Rattle.std.proofs.Common.{List, [], ◌∷◌, ◌++◌, flat_map, slice_get, refl, sym, ◌∙◌, ap₂}
+use Rattle.std.proofs.Common.{List, [], ◌∷◌, flat_map, slice_get, refl, ap₂}
 use Rattle.std.specs.List.{list_all}
-use Rattle.std.proofs.lemmas.List.Folds.{list_all-append}
 use Rattle.std.proofs.lemmas.Bool.{and_parts}
 use Rattle.ground_types.specs.History.{before_seal}
 use Rattle.ground_types.specs.Meaning.{units_of_expr, units_of_members}
@@ -22,6 +21,7 @@ use Rattle.point_rule.specs.Known.{known}
 use Rattle.span_algebra.specs.declared.rows.UnitRows.{UnitRows}
 use Rattle.delay_revise.specs.Published.{Stand}
 use Rattle.delay_revise.specs.Worked.{IsWorked}
+use Rattle.delay_revise.proofs.EachItem.{all_left, all_right}
 use Rattle.delay_revise.proofs.LookUp.{value_found, rows_worked, occurs_of}
 
 -- input events do not matter to expressions
@@ -30,33 +30,19 @@ module _ (rows : List UnitRows) (store : Events) (t : ℕ) where
     pub expr_told : (expr : Expr) → expr_holds (told rows) expr t ≡ expr_holds (known rows store)
         expr t
     expr_told (Row unit v) = refl
-    expr_told (Union' shape members) = some_told members
-    expr_told (Intersect' shape members) = each_told members
+    expr_told (Union' shape members) = (members_told members).0
+    expr_told (Intersect' shape members) = (members_told members).1
     expr_told (Complement' p first shape others) = ap₂ (λ (a b : Bool). a && not b)
-        (expr_told first) (some_told others)
+        (expr_told first) (members_told others).0
 
-    some_told : {m : _} (members : Row_of-Expr m) → some_holds (told rows) members t
-        ≡ some_holds (known rows store) members t
-    some_told end_of-Expr = refl
-    some_told (more_of-Expr member rest) = ap₂ (λ (a b : Bool). a || b) (expr_told member)
-        (some_told rest)
-
-    each_told : {m : _} (members : Row_of-Expr m) → each_holds (told rows) members t
-        ≡ each_holds (known rows store) members t
-    each_told end_of-Expr = refl
-    each_told (more_of-Expr member rest) = ap₂ (λ (a b : Bool). a && b) (expr_told member)
-        (each_told rest)
-
--- what passes for two lists together passes for each
-both_left : (test : ℕ → Bool) (xs ys : List ℕ) → list_all test (xs ++ ys) ≡ true → list_all test xs
-    ≡ true
-both_left test xs ys all = (and_parts (list_all test xs) (list_all test ys)
-    (sym (list_all-append test xs ys) ∙ all)).0
-
-both_right : (test : ℕ → Bool) (xs ys : List ℕ) → list_all test (xs ++ ys) ≡ true
-    → list_all test ys ≡ true
-both_right test xs ys all = (and_parts (list_all test xs) (list_all test ys)
-    (sym (list_all-append test xs ys) ∙ all)).1
+    members_told : {m : _} (members : Row_of-Expr m)
+        → (some_holds (told rows) members t ≡ some_holds (known rows store) members t)
+        × (each_holds (told rows) members t ≡ each_holds (known rows store) members t)
+    members_told end_of-Expr = (refl, refl)
+    members_told (more_of-Expr member rest) =
+        let here = expr_told member in
+        let later = members_told rest in
+        (ap₂ (λ (a b : Bool). a || b) here later.0, ap₂ (λ (a b : Bool). a && b) here later.1)
 
 module _ (program : Program) (history : List Entry) (store : Events) (below : List ℕ)
     (rows : List UnitRows)
@@ -71,40 +57,32 @@ module _ (program : Program) (history : List Entry) (store : Events) (below : Li
         value_found program history 0 (occurs_of store) below rows sound stand
         (rows_worked program history store below rows stand worked) unit v t fits
         (and_parts (contains below unit) true done).0 above within
-    expr_found (Union' shape members) fits done = some_found members fits done
+    expr_found (Union' shape members) fits done = (members_found members fits done).0
     expr_found (Intersect' shape members) fits done =
-        each_found members (and_parts (not (member_count members == 0))
-        (members_fit program members) fits).1 done
+        (members_found members (and_parts (not (member_count members == 0))
+        (members_fit program members) fits).1 done).1
     expr_found (Complement' p first shape others) fits done =
         ap₂ (λ (a b : Bool). a && not b)
         (expr_found first (and_parts (expr_fits program first) (members_fit program others) fits).0
-        (both_left (contains below) (units_of_expr first) (units_of_members others) done))
-        (some_found others (and_parts (expr_fits program first) (members_fit program others) fits).1
-        (both_right (contains below) (units_of_expr first) (units_of_members others) done))
+        (all_left (contains below) (units_of_expr first) (units_of_members others) done))
+        (members_found others (and_parts (expr_fits program first) (members_fit program others)
+        fits).1
+        (all_right (contains below) (units_of_expr first) (units_of_members others) done)).0
 
-    some_found : {m : _} (members : Row_of-Expr m) → members_fit program members ≡ true
+    members_found : {m : _} (members : Row_of-Expr m) → members_fit program members ≡ true
         → list_all (contains below) (units_of_members members) ≡ true →
-        some_holds (known rows store) members t ≡ some_holds (query_table program history 0)
-        members t
-    some_found end_of-Expr fits done = refl
-    some_found (more_of-Expr member rest) fits done =
-        ap₂ (λ (a b : Bool). a || b)
-        (expr_found member (and_parts (expr_fits program member) (members_fit program rest) fits).0
-        (both_left (contains below) (units_of_expr member) (units_of_members rest) done))
-        (some_found rest (and_parts (expr_fits program member) (members_fit program rest) fits).1
-        (both_right (contains below) (units_of_expr member) (units_of_members rest) done))
-
-    each_found : {m : _} (members : Row_of-Expr m) → members_fit program members ≡ true
-        → list_all (contains below) (units_of_members members) ≡ true →
-        each_holds (known rows store) members t ≡ each_holds (query_table program history 0)
-        members t
-    each_found end_of-Expr fits done = refl
-    each_found (more_of-Expr member rest) fits done =
-        ap₂ (λ (a b : Bool). a && b)
-        (expr_found member (and_parts (expr_fits program member) (members_fit program rest) fits).0
-        (both_left (contains below) (units_of_expr member) (units_of_members rest) done))
-        (each_found rest (and_parts (expr_fits program member) (members_fit program rest) fits).1
-        (both_right (contains below) (units_of_expr member) (units_of_members rest) done))
+        (some_holds (known rows store) members t ≡ some_holds (query_table program history 0)
+        members t)
+        × (each_holds (known rows store) members t ≡ each_holds (query_table program history 0)
+        members t)
+    members_found end_of-Expr fits done = (refl, refl)
+    members_found (more_of-Expr member rest) fits done =
+        let fit = and_parts (expr_fits program member) (members_fit program rest) fits in
+        let here = expr_found member fit.0
+        (all_left (contains below) (units_of_expr member) (units_of_members rest) done) in
+        let later = members_found rest fit.1
+        (all_right (contains below) (units_of_expr member) (units_of_members rest) done) in
+        (ap₂ (λ (a b : Bool). a || b) here later.0, ap₂ (λ (a b : Bool). a && b) here later.1)
 
   -- the expression of a value, if there is one, is true at a value point where it is so over the
   -- rows
@@ -115,8 +93,8 @@ module _ (program : Program) (history : List Entry) (store : Events) (below : Li
   option_found [] v fit done = refl
   option_found (expr ∷ rest) zero fit done =
       expr_found expr (and_parts (expr_fits program expr) (list_all (expr_fits program) rest) fit).0
-      (both_left (contains below) (units_of_expr expr) (flat_map units_of_expr rest) done)
+      (all_left (contains below) (units_of_expr expr) (flat_map units_of_expr rest) done)
   option_found (expr ∷ rest) (suc v) fit done =
       option_found rest v (and_parts (expr_fits program expr) (list_all (expr_fits program) rest)
       fit).1
-      (both_right (contains below) (units_of_expr expr) (flat_map units_of_expr rest) done)
+      (all_right (contains below) (units_of_expr expr) (flat_map units_of_expr rest) done)

@@ -1,12 +1,11 @@
 -- What a unit comes to over the rows of the units that it names is what is published of it.
-use Rattle.std.proofs.Common.{◌≡◌, ℕ, ◌+◌, ◌<◌, ◌≤◌, Bool, true, false, cond, ◌&&◌, ◌||◌, List, []}
-use Rattle.std.proofs.Common.{◌∷◌, ◌++◌, map, filter, flat_map, slice_get, Option, Some, None}
-use Rattle.std.proofs.Common.{length, ◌==◌, refl, sym, ◌∙◌, ap, ap₂}
+use Rattle.std.proofs.Common.{◌≡◌, ℕ, ◌+◌, ◌<◌, ◌≤◌, Bool, true, false, ◌&&◌, ◌||◌, List, []}
+use Rattle.std.proofs.Common.{◌∷◌, map, flat_map, slice_get, Option, Some, None, length, ◌==◌}
+use Rattle.std.proofs.Common.{sym, ◌∙◌, ap, ap₂}
 use Rattle.std.specs.Prelude.{option_and_then, option_map}
-use Rattle.std.specs.List.{list_all, list_any, range_with_len}
+use Rattle.std.specs.List.{list_all, range_with_len, AllByRecursion}
 use Rattle.std.proofs.Math.Bool.{or-false}
 use Rattle.std.proofs.Math.Path.{fun_ext}
-use Rattle.std.proofs.lemmas.List.Folds.{list_all-append}
 use Rattle.std.proofs.lemmas.Option.{slice_get-map}
 use Rattle.std.proofs.lemmas.Bool.{and_parts}
 use Rattle.ground_types.specs.History.{before_seal}
@@ -34,19 +33,9 @@ use Rattle.delay_revise.specs.Published.{Stand}
 use Rattle.delay_revise.specs.Worked.{IsWorked, first_rows}
 use Rattle.delay_revise.specs.Working.{rows_over}
 use Rattle.delay_revise.proofs.Alike.{row_alike, points_alike, value_alike}
+use Rattle.delay_revise.proofs.EachItem.{all_left, all_right, filter_alike, any_alike}
 use Rattle.delay_revise.proofs.Expressions.{option_found}
 use Rattle.delay_revise.proofs.LookUp.{table_means, body_found, rows_worked, occurs_of}
-
--- what passes for two lists together passes for each
-pub all_left : {X : Type 0} (test : X → Bool) (xs ys : List X) → list_all test (xs ++ ys) ≡ true
-    → list_all test xs ≡ true
-all_left test xs ys all = (and_parts (list_all test xs) (list_all test ys)
-    (sym (list_all-append test xs ys) ∙ all)).0
-
-pub all_right : {X : Type 0} (test : X → Bool) (xs ys : List X) → list_all test (xs ++ ys) ≡ true
-    → list_all test ys ≡ true
-all_right test xs ys all = (and_parts (list_all test xs) (list_all test ys)
-    (sym (list_all-append test xs ys) ∙ all)).1
 
 -- what fits of a simple fluent
 pub record DoesFit (program : Program) (count : ℕ) (initiate terminate : List Rule) : Type 0 where
@@ -78,47 +67,26 @@ module _ (program : Program) (history : List Entry) (store : Events) (below : Li
     (rows : List UnitRows)
     (sound : IsSound program) (stand : Stand program store (before_seal history 0))
     (worked : IsWorked program store below rows) where
-  first_found : (count : ℕ) (rule : Rule) (rest : List Rule) (t : ℕ)
-      → list_all (rule_fits program count) (rule ∷ rest) ≡ true →
-      list_all (contains below) (flat_map units_of_rule (rule ∷ rest)) ≡ true
-      → left program.plan 0 < t → t ≤ right program.plan 0 →
-      body_holds (known rows store) rule t ≡ body_holds (query_table program history 0) rule t
-  first_found count rule rest t fit done above within =
-      body_found program history 0 (occurs_of store) below rows sound stand
-      (rows_worked program history store below rows stand worked) count rule t
-      (and_parts (rule_fits program count rule) (list_all (rule_fits program count) rest) fit).0
-      (all_left (contains below) (units_of_rule rule) (flat_map units_of_rule rest) done) above
-      within
-
+  -- the bodies of rules are true over the rows where they are in query 0
   bodies_found : (count : ℕ) (rules : List Rule) (t : ℕ) → list_all (rule_fits program count) rules
       ≡ true →
       list_all (contains below) (flat_map units_of_rule rules) ≡ true → left program.plan 0 < t
       → t ≤ right program.plan 0 →
-      filter (λ rule. body_holds (known rows store) rule t) rules
-      ≡ filter (λ rule. body_holds (query_table program history 0) rule t) rules
-  bodies_found count [] t fit done above within = refl
+      AllByRecursion (λ rule. body_holds (known rows store) rule t
+      ≡ body_holds (query_table program history 0) rule t) rules
+  bodies_found count [] t fit done above within = tt
   bodies_found count (rule ∷ rest) t fit done above within =
-      ap₂ (λ (b : Bool) (l : List Rule). cond b (rule ∷ l) l) (first_found count rule rest t fit
-      done above within)
-      (bodies_found count rest t (and_parts (rule_fits program count rule)
-      (list_all (rule_fits program count) rest) fit).1
-      (all_right (contains below) (units_of_rule rule) (flat_map units_of_rule rest) done) above
-      within)
-
-  some_body_found : (count : ℕ) (rules : List Rule) (t : ℕ) → list_all (rule_fits program count)
-      rules
-      ≡ true →
-      list_all (contains below) (flat_map units_of_rule rules) ≡ true → left program.plan 0 < t
-      → t ≤ right program.plan 0 →
-      list_any (λ rule. body_holds (known rows store) rule t) rules
-      ≡ list_any (λ rule. body_holds (query_table program history 0) rule t) rules
-  some_body_found count [] t fit done above within = refl
-  some_body_found count (rule ∷ rest) t fit done above within =
-      ap₂ (λ (a b : Bool). a || b) (first_found count rule rest t fit done above within)
-      (some_body_found count rest t (and_parts (rule_fits program count rule)
-      (list_all (rule_fits program count) rest) fit).1
-      (all_right (contains below) (units_of_rule rule) (flat_map units_of_rule rest) done) above
-      within)
+      let fits = and_parts (rule_fits program count rule) (list_all (rule_fits program count) rest)
+      fit in
+      let first = all_left (contains below) (units_of_rule rule) (flat_map units_of_rule rest) done
+      in
+      let later = all_right (contains below) (units_of_rule rule) (flat_map units_of_rule rest) done
+      in (
+        body_found program history 0 (occurs_of store) below rows sound stand
+            (rows_worked program history store below rows stand worked) count rule t fits.0 first
+            above within,
+        bodies_found count rest t fits.1 later above within,
+      )
 
   rule_values_found : (count : ℕ) (rules : List Rule) (t : ℕ) → list_all (rule_fits program count)
       rules
@@ -127,7 +95,9 @@ module _ (program : Program) (history : List Entry) (store : Events) (below : Li
       → t ≤ right program.plan 0 →
       values_of (known rows store) rules t ≡ values_of (query_table program history 0) rules t
   rule_values_found count rules t fit done above within = ap (map (λ (rule : Rule). rule.value))
-      (bodies_found count rules t fit done above within)
+      (filter_alike (λ rule. body_holds (known rows store) rule t)
+      (λ rule. body_holds (query_table program history 0) rule t) rules
+      (bodies_found count rules t fit done above within))
 
   -- the value of a simple fluent over the rows is that in query 0
   simple_found : (number count v t : ℕ) (initially : Option ℕ) (initiate terminate : List Rule) →
@@ -176,7 +146,8 @@ module _ (program : Program) (history : List Entry) (store : Events) (below : Li
       ≡ (query_table program history 0).derived number t
   derived_found number t rules kind fit done above within =
       let table : Table = query_table program history 0 in
-      some_body_found 1 rules t fit done above within
+      any_alike (λ rule. body_holds (known rows store) rule t) (λ rule. body_holds table rule t)
+      rules (bodies_found 1 rules t fit done above within)
       ∙ sym ((table_means program history 0 sound).derived_events number t
       ∙ ap (λ (k : UnitKind). derived_of_unit table k t) kind)
 

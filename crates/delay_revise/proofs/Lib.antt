@@ -1,4 +1,5 @@
 pub mod Alike
+pub mod EachItem
 pub mod Expressions
 pub mod ExprRows
 pub mod Gathering

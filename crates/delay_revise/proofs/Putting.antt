@@ -5,7 +5,6 @@ use Rattle.std.proofs.Common.{set, Option, Some, None, refl, sym, ◌∙◌, ap,
 use Rattle.std.specs.Prelude.{option_map, is_none}
 use Rattle.std.specs.List.{list_all, AllByRecursion}
 use Rattle.std.proofs.lemmas.List.{length-set}
-use Rattle.std.proofs.lemmas.List.Folds.{list_all-append}
 use Rattle.std.proofs.lemmas.Option.{slice_get-map, slice_get_within, slice_get_read}
 use Rattle.std.proofs.lemmas.Bool.{and_parts, lt-ltb, eqb-true, eqb-false, not-true}
 use Rattle.ground_types.specs.Meaning.{units_of_trigger, units_of_what, units_of_rule}
@@ -32,6 +31,7 @@ use Rattle.span_algebra.specs.declared.rows.UnitRows.{UnitRows}
 use Rattle.delay_revise.specs.Published.{published}
 use Rattle.delay_revise.specs.Worked.{IsPut, Works}
 use Rattle.delay_revise.specs.Working.{is_static, rows_over, evaluations_over}
+use Rattle.delay_revise.proofs.EachItem.{all_both}
 use Rattle.delay_revise.proofs.Idle.{idle_rows}
 use Rattle.delay_revise.proofs.InWindow.{put_inside}
 use Rattle.delay_revise.proofs.KindRows.{DoesFit, fits_simple}
@@ -75,9 +75,8 @@ module _ (program : Program) where
       (flat_map (λ cond. units_of_what cond.what) conds) ≡ true
   conditions_named [] fit = refl
   conditions_named (c ∷ rest) fit =
-      list_all-append (λ unit. nat_lt unit (length program.units)) (units_of_what c.what)
+      all_both (λ unit. nat_lt unit (length program.units)) (units_of_what c.what)
       (flat_map (λ cond. units_of_what cond.what) rest)
-      ∙ ap₂ (λ (a b : Bool). a && b)
       (what_named c.what (and_parts (what_fits program c.what)
       (list_all (λ cond. what_fits program cond.what) rest) fit).0)
       (conditions_named rest (and_parts (what_fits program c.what)
@@ -89,9 +88,8 @@ module _ (program : Program) where
       let first : Bool = nat_lt rule.value count in
       let triggers : Bool = trigger_fits program rule.trigger in
       let others : Bool = list_all (λ cond. what_fits program cond.what) rule.conds in
-      list_all-append (λ unit. nat_lt unit (length program.units)) (units_of_trigger rule.trigger)
+      all_both (λ unit. nat_lt unit (length program.units)) (units_of_trigger rule.trigger)
       (flat_map (λ cond. units_of_what cond.what) rule.conds)
-      ∙ ap₂ (λ (a b : Bool). a && b)
       (trigger_named rule.trigger (and_parts first triggers (and_parts (first && triggers) others
       fits).0).1)
       (conditions_named rule.conds (and_parts (first && triggers) others fits).1)
@@ -115,8 +113,7 @@ module _ (program : Program) where
       let fit : DoesFit program count initiate terminate = fits_simple program count initially
       initiate terminate fits in
       rules_named count (initiate ++ terminate) rows size
-      (list_all-append (rule_fits program count) initiate terminate ∙ ap₂ (λ (a b : Bool). a && b)
-      fit.inits fit.terms)
+      (all_both (rule_fits program count) initiate terminate fit.inits fit.terms)
   kind_named count (Static exprs) rows size fits = tt
   kind_named count (Derived rules) rows size fits = rules_named 1 rules rows size fits
 
@@ -139,26 +136,31 @@ none_of : (o : Option ℕ) → is_none o ≡ true → o ≡ None
 none_of None is = refl
 none_of (Some v) is = cc
 
-module _ (program : Program) (store : Events) (number : ℕ) (old : List UnitRows) (unit : Unit)
-    (w q : ℕ)
-    (sound : IsSound program) (size : length old ≡ length program.units)
-    (at : slice_get program.units number ≡ Some unit) (from : w ≡ left program.plan 0) (until : q
-    ≡ right program.plan 0) where
+-- what is known of a unit that is worked: it is the one of its number, over the window of query 0
+pub record IsUnit (program : Program) (number : ℕ) (unit : Unit) (w q : ℕ) : Type 0 where
+  pub sound : IsSound program
+  pub at : slice_get program.units number ≡ Some unit
+  pub from : w ≡ left program.plan 0
+  pub until : q ≡ right program.plan 0
+
+module _ {program : Program} {number : ℕ} {unit : Unit} {w q : ℕ}
+    (this : IsUnit program number unit w q) (store : Events) (old : List UnitRows)
+    (size : length old ≡ length program.units) where
   -- the units that its rules name have rows
   pub unit_named : AllByRecursion (HasRows old) (rules_of unit.kind)
   unit_named = kind_named program (unit_values program unit) unit.kind old size
-      (unit_of program number unit sound at).fits
+      (unit_of program number unit this.sound this.at).fits
 
   same_unit : (other : Unit) → slice_get program.units number ≡ Some other → unit ≡ other
-  same_unit other there = let both : Some unit ≡ Some other = sym at ∙ there in cc
+  same_unit other there = let both : Some unit ≡ Some other = sym this.at ∙ there in cc
 
   evaluations_there : (count : ℕ) → count ≡ evaluations_over (known old store) unit.kind w q →
       count ≡ evaluations_over (known old store) (kind_of program number) (left program.plan 0)
       (right program.plan 0)
   evaluations_there count is =
-      is ∙ ap₂ (λ (a b : ℕ). evaluations_over (known old store) unit.kind a b) from until
+      is ∙ ap₂ (λ (a b : ℕ). evaluations_over (known old store) unit.kind a b) this.from this.until
       ∙ ap (λ (k : UnitKind). evaluations_over (known old store) k (left program.plan 0)
-      (right program.plan 0)) (sym (ap kind_or_idle at))
+      (right program.plan 0)) (sym (ap kind_or_idle this.at))
 
   put_set : (made : UnitRows) (new : List UnitRows) → number < length program.units
       → new ≡ slice_set old number made →
@@ -171,7 +173,7 @@ module _ (program : Program) (store : Events) (number : ℕ) (old : List UnitRow
         ∙ ap (option_map published) (put_here old number made (omega (arith, size)))
         ∙ ap Some (rows
         ∙ ap₂ (λ (a b : ℕ). rows_over (known old store) (initial_of unit.kind)
-        (unit_values program unit) unit.kind a b) from until
+        (unit_values program unit) unit.kind a b) this.from this.until
         ∙ ap (λ (u : Unit). rows_over (known old store) (initial_of u.kind) (unit_values program u)
         u.kind (left program.plan 0) (right program.plan 0))
         (same_unit other there));
@@ -189,8 +191,9 @@ module _ (program : Program) (store : Events) (number : ℕ) (old : List UnitRow
       old new count
   unit_put made new count within set rows is =
       let put : IsPut program store number old new = put_set made new within set rows in
-      works_unit program store sound number old new count put.size (put_inside program store number
-      old new unit at put) (λ empty. put) (evaluations_there count is)
+      works_unit program store this.sound number old new count put.size
+      (put_inside program store number old new unit this.at put) (λ empty. put)
+      (evaluations_there count is)
 
   put_none : (count : ℕ) → is_static unit.kind ≡ false → count ≡ evaluations_over (known old store)
       unit.kind w q → eqb count 0 ≡ true → is_none (initial_of unit.kind) ≡ true →
@@ -200,11 +203,12 @@ module _ (program : Program) (store : Events) (number : ℕ) (old : List UnitRow
     size = refl;
     here = λ other there.
         ap (option_map published) (empty ∙ slice_get-map (empty_rows program) program.units number
-        ∙ ap (option_map (empty_rows program)) at)
+        ∙ ap (option_map (empty_rows program)) this.at)
         ∙ ap Some (idle_rows (known old store) (unit_values program unit) unit.kind
         (left program.plan 0) (right program.plan 0)
         other_kind (none_of (initial_of unit.kind) opens)
-        (ap₂ (λ (a b : ℕ). evaluations_over (known old store) unit.kind a b) (sym from) (sym until)
+        (ap₂ (λ (a b : ℕ). evaluations_over (known old store) unit.kind a b) (sym this.from)
+        (sym this.until)
         ∙ sym is ∙ eqb-true count 0 none)
         ∙ ap (λ (u : Unit). rows_over (known old store) (initial_of u.kind) (unit_values program u)
         u.kind (left program.plan 0) (right program.plan 0))
@@ -220,7 +224,7 @@ module _ (program : Program) (store : Events) (number : ℕ) (old : List UnitRow
       let first : (not (is_static unit.kind) && eqb count 0) ≡ true =
       (and_parts (not (is_static unit.kind) && eqb count 0) (is_none (initial_of unit.kind))
       idle).0 in
-      works_unit program store sound number old old count refl (λ inside. inside)
+      works_unit program store this.sound number old old count refl (λ inside. inside)
       (put_none count (not-true (is_static unit.kind) (and_parts (not (is_static unit.kind))
       (eqb count 0) first).0) is
       (and_parts (not (is_static unit.kind)) (eqb count 0) first).1

@@ -6,7 +6,6 @@ use Rattle.std.specs.Prelude.{sum_by}
 use Rattle.std.specs.List.{list_all, range_with_len}
 use Rattle.std.proofs.Math.Bool.{and-true}
 use Rattle.std.proofs.lemmas.Grind.{flat_map-append}
-use Rattle.std.proofs.lemmas.List.Folds.{list_all-append}
 use Rattle.std.proofs.lemmas.List.FromFn.{length-range_with_len}
 use Rattle.std.proofs.lemmas.List.Sums.{sum_by-cons}
 use Rattle.std.proofs.lemmas.Bool.{and_parts}
@@ -35,7 +34,8 @@ use Rattle.delay_revise.specs.Published.{Stand}
 use Rattle.delay_revise.specs.Worked.{IsWorked}
 use Rattle.delay_revise.specs.Working.{evaluations_of, evaluations_over}
 use Rattle.delay_revise.proofs.Alike.{points_alike}
-use Rattle.delay_revise.proofs.KindRows.{DoesFit, fits_simple, all_left, all_right}
+use Rattle.delay_revise.proofs.EachItem.{all_left, all_right, all_both}
+use Rattle.delay_revise.proofs.KindRows.{DoesFit, fits_simple}
 use Rattle.delay_revise.proofs.LookUp.{trigger_found, rows_worked, occurs_of}
 
 -- a window has as many points as it is long
@@ -141,8 +141,7 @@ module _ (program : Program) (history : List Entry) (store : Events) (below : Li
       let fit : DoesFit program count initiate terminate = fits_simple program count initially
       initiate terminate fits in
       rules_counted count (initiate ++ terminate)
-      (list_all-append (rule_fits program count) initiate terminate ∙ ap₂ (λ (a b : Bool). a && b)
-      fit.inits fit.terms)
+      (all_both (rule_fits program count) initiate terminate fit.inits fit.terms)
       (ap (list_all (contains below)) (flat_map-append units_of_rule initiate terminate) ∙ done)
   kind_counted count (Static exprs) fits done = refl
   kind_counted count (Derived rules) fits done = rules_counted 1 rules fits done

@@ -192,41 +192,6 @@ fn no_parts(alloc: Global, count: usize) -> Result<Vec<Parts>, OutOfMemory>
     Ok(parts)
 }
 
-// For each of so many values the points of its rules. One pass over the rules.
-fn parts_by_value<L: Ledger>(
-    alloc: Global,
-    rules: &[Rule],
-    count: usize,
-    cache: &Cache,
-    store: &EventStore,
-    w: Point,
-    q: Point,
-    steps: &mut Steps<L>,
-) -> Result<Vec<Parts>, OutOfMemory>
-    requires values { list_all (λ rule. nat_lt rule.value count) rules.now ≡ true }
-    requires rows { AllByRecursion (HasRows cache.now.rows) rules.now }
-    requires end { q < 2 ^ 64 - 1 }
-    ensures count { IfOk result (λ parts. length parts.items ≡ count) }
-    ensures points { IfOk result (λ parts. (v t : ℕ) →
-        list_any (λ points. contains points t) (slice_index_or parts.items v [])
-        ≡ list_any (λ rule. (rule.value == v)
-        && contains (points (body_holds (known cache.now.rows store.now) rule) w q) t)
-        rules.now) }
-    ensures steps { OnOk result (steps.new ≡ record {
-      count = steps.old.count + evaluations_of (known cache.now.rows store.now) rules.now w q;
-      out = steps.old.out;
-    }) }
-    ensures most { OnErr result (steps.new.count ≤ steps.old.count + evaluations_of
-        (known cache.now.rows store.now) rules.now w q) }
-    ensures parts { steps.new.out ≡ steps.old.out }
-{
-    let mut parts = no_parts(alloc, count)?;
-    for rule in rules {
-        parts[rule.value as usize].push_rule(alloc, rule, cache, store, w, q, steps)?;
-    }
-    Ok(parts)
-}
-
 // The points of each value, each once.
 fn joined(alloc: Global, parts: &[Parts]) -> Result<Vec<Points>, OutOfMemory>
     ensures count { IfOk result (λ found. length found.items ≡ length parts.now) }
@@ -271,6 +236,9 @@ pub(crate) fn points_by_value<L: Ledger>(
         (known cache.now.rows store.now) rules.now w q) }
     ensures parts { steps.new.out ≡ steps.old.out }
 {
-    let parts = parts_by_value(alloc, rules, count, cache, store, w, q, steps)?;
+    let mut parts = no_parts(alloc, count)?;
+    for rule in rules {
+        parts[rule.value as usize].push_rule(alloc, rule, cache, store, w, q, steps)?;
+    }
     joined(alloc, &parts)
 }

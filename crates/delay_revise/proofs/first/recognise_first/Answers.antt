@@ -1,8 +1,10 @@
-use Rattle.std.proofs.Common.{◌∙◌, ℕ, List, length, map, refl, ap, arith}
+use Rattle.std.proofs.Common.{◌+◌, ◌≤◌, ◌∙◌, ℕ, List, length, take, map, refl, ap, arith}
+use Rattle.std.specs.Prelude.{sum_by}
 use Rattle.std.proofs.lemmas.List.Sums.{sum_by_more}
 use Rattle.rt_base.specs.Counted.{Counted}
 use Rattle.layer_cache.specs.Cached.{all_empty}
 use Rattle.delay_revise.specs.Published.{published}
+use Rattle.delay_revise.specs.Worked.{WorksAll}
 use Rattle.ground_types.specs.Windows.{left, right}
 use Rattle.delay_revise.proofs.Gathering.{on_err}
 use Rattle.delay_revise.proofs.InWindow.{empty_inside}
@@ -10,7 +12,32 @@ use Rattle.delay_revise.proofs.LayerSizes.{are_below, layer_known_at, layers_fit
 use Rattle.delay_revise.proofs.Stepping.{steps_joined}
 use Rattle.delay_revise.proofs.WorkedUnits.{layer_more, layer_refused, layers_done, all_rows}
 use Rattle.delay_revise.proofs.WorkedUnits.{all_evaluations}
+use Rattle.delay_revise.proofs.first.recognise_first.Given.{Over}
+use Rattle.delay_revise.proofs.first.recognise_first.Goals.{After-as_slice, After-into_rows}
 use Rattle.delay_revise.proofs.first.recognise_first.Goals as goal
+
+-- a layer and those before it have few units
+layer_fits : (g : Over) (c : After-as_slice g) →
+    sum_by length (take c.loop-layer.layer-index c.as_slice-layer-items.result.now)
+    + length c.as_slice.result.now ≤ 65536
+layer_fits g c =
+    omega (
+      arith,
+      ap (λ (l : List ℕ). length l) c.as_slice.ensures,
+      layers_fit c.args.program.now c.as_slice-layer-items.result.now c.loop-layer.layer-index
+          c.layer-item.result c.requires.sound
+          c.as_slice-layer-items.ensures c.loop-layer-test.true c.layer-item.is,
+    )
+
+-- after the last layer all are worked
+all_worked : (g : Over) (c : After-into_rows g) → WorksAll c.args.program.now c.args.store.now
+    c.args.program.now.layers (all_empty c.args.program.now) c.loop-layer.cache.rows
+    c.loop-layer.evaluations
+all_worked g c =
+    layers_done c.args.program.now c.args.store.now c.as_slice-layer-items.result.now
+    c.loop-layer.layer-index (all_empty c.args.program.now)
+    c.loop-layer.cache.rows c.loop-layer.evaluations c.as_slice-layer-items.ensures
+    (omega (arith, c.loop-layer-test.false)) c.loop-layer.invariant.works
 
 pub work_layer-requires-clause-units : goal.work_layer-requires-clause-units
 work_layer-requires-clause-units g c =
@@ -21,13 +48,7 @@ work_layer-requires-clause-units g c =
 
 pub work_layer-requires-clause-few : goal.work_layer-requires-clause-few
 work_layer-requires-clause-few g c =
-    omega (
-      arith,
-      ap (λ (l : List ℕ). length l) c.as_slice.ensures,
-      layers_fit c.args.program.now c.as_slice-layer-items.result.now c.loop-layer.layer-index
-          c.layer-item.result c.requires.sound
-          c.as_slice-layer-items.ensures c.loop-layer-test.true c.layer-item.is,
-    )
+    omega (arith, layer_fits g (goal.at.work_layer-requires-clause-few g c).After-as_slice)
 
 pub work_layer-requires-clause-inside : goal.work_layer-requires-clause-inside
 work_layer-requires-clause-inside g c =
@@ -38,10 +59,7 @@ pub overflow_add-evaluations : goal.overflow_add-evaluations
 overflow_add-evaluations g c =
     omega (
       arith,
-      ap (λ (l : List ℕ). length l) c.as_slice.ensures,
-      layers_fit c.args.program.now c.as_slice-layer-items.result.now c.loop-layer.layer-index
-          c.layer-item.result c.requires.sound
-          c.as_slice-layer-items.ensures c.loop-layer-test.true c.layer-item.is,
+      layer_fits g (goal.at.overflow_add-evaluations g c).After-as_slice,
       c.loop-layer.invariant.most,
       c.in_ok-evaluations.ensures.most,
     )
@@ -74,21 +92,13 @@ returns-clause-rows g c = λ history stand.
     ap (map published) c.into_rows.ensures
     ∙ all_rows c.args.program.now c.args.store.now (all_empty c.args.program.now)
     c.loop-layer.cache.rows c.loop-layer.evaluations c.requires.sound refl
-    (layers_done c.args.program.now c.args.store.now c.as_slice-layer-items.result.now
-    c.loop-layer.layer-index (all_empty c.args.program.now)
-    c.loop-layer.cache.rows c.loop-layer.evaluations c.as_slice-layer-items.ensures
-    (omega (arith, c.loop-layer-test.false)) c.loop-layer.invariant.works)
-    history stand
+    (all_worked g (goal.at.returns-clause-rows g c).After-into_rows) history stand
 
 pub returns-clause-evaluations : goal.returns-clause-evaluations
 returns-clause-evaluations g c = λ history stand.
     all_evaluations c.args.program.now c.args.store.now (all_empty c.args.program.now)
     c.loop-layer.cache.rows c.loop-layer.evaluations c.requires.sound refl
-    (layers_done c.args.program.now c.args.store.now c.as_slice-layer-items.result.now
-    c.loop-layer.layer-index (all_empty c.args.program.now)
-    c.loop-layer.cache.rows c.loop-layer.evaluations c.as_slice-layer-items.ensures
-    (omega (arith, c.loop-layer-test.false)) c.loop-layer.invariant.works)
-    history stand
+    (all_worked g (goal.at.returns-clause-evaluations g c).After-into_rows) history stand
 
 pub returns-in_err-evaluations-clause-refused : goal.returns-in_err-evaluations-clause-refused
 returns-in_err-evaluations-clause-refused g c =

@@ -5,7 +5,7 @@ use Rattle.ground_types.specs.Truth.{body_holds}
 use Rattle.point_rule.specs.Known.{known}
 use Rattle.delay_revise.specs.Working.{evaluations_of}
 use Rattle.delay_revise.proofs.Joined.{some_has, rule_has}
-use Rattle.delay_revise.proofs.gather.parts_by_value.Given as goal
+use Rattle.delay_revise.proofs.gather.points_by_value.Given as goal
 
 abbrev pub invariant-loop-rule : goal.invariant-loop-rule
 invariant-loop-rule g l = record {
