@@ -8,8 +8,8 @@ ghost use Rattle.simple_fluent.specs.Firsts.{least_with, RisesFrom, value_in};
 ghost use Rattle.simple_fluent.specs.Sweep.{started, after_point, next_of, is_same, terms_from};
 ghost use Rattle.simple_fluent.specs.Sweep.{terms_after, since_after, rows_after, CanPass};
 
-use crate::firsts::{First, rest_firsts};
-use ground_types::Point;
+use crate::firsts::{First, gather, rest_firsts};
+use ground_types::{Point, Value};
 use rt_base::OutOfMemory;
 use span_algebra::{Points, Span, Spans};
 use std::alloc::Global;
@@ -134,13 +134,35 @@ fn empty_rows(alloc: Global, count: usize) -> Result<Vec<Spans>, OutOfMemory>
     Ok(rows)
 }
 
-// The rows, from the first value initiated at each point. The span that is open at the end of the
-// window goes on to the last value point.
-pub(crate) fn sweep(
+// The number of a value among its fluent's.
+fn number_of(value: Option<Value>) -> Option<usize>
+    ensures { result ≡ value }
+{
+    match value {
+        None => None,
+        Some(value) => Some(value as usize),
+    }
+}
+
+/// The row of each value over the window `(w, q]`, in the order of the values: its spans over the
+/// value points `w + 1` to `q + 1`, in whole points of time.
+///
+/// `opening` is the value at the first value point, and `inits` and `terms` have for each value the
+/// event points of the window at which it is initiated and terminated. A value goes on from point
+/// to point until it is terminated or another is initiated, by the law of inertia of the Run-Time
+/// Event Calculus. What happens at an event point counts from the next point on. The rules for ties
+/// are our own: at one point an initiation beats a termination, and of several values that are
+/// initiated there the one declared first counts. A value that is initiated breaks another that
+/// holds.
+///
+/// The one error is want of memory. Merging n initiations of k values takes about n log k steps.
+/// After that each initiation takes a step and at most two searches by halves among the
+/// terminations of its value; terminations of values that do not hold take none. Beside the rows,
+/// the memory grows by n.
+pub fn spans_of(
     alloc: Global,
-    opening: Option<usize>,
+    opening: Option<Value>,
     inits: &[Points],
-    firsts: &[First],
     terms: &[Points],
     w: Point,
     q: Point,
@@ -149,18 +171,18 @@ pub(crate) fn sweep(
     requires count { length inits.now ≡ length terms.now }
     requires inits_inside { AllByRecursion (IsInside w q) inits.now }
     requires terms_inside { AllByRecursion (IsInside w q) terms.now }
-    requires firsts_rise { RisesFrom 0 firsts.now }
-    requires firsts { (t : ℕ) → value_in firsts.now t ≡ least_with 0 inits.now t }
     requires window { w < q }
     requires end { q < 2 ^ 64 - 1 }
     ensures { IfOk result (λ rows. map pairs rows.items ≡ rows_of opening inits.now terms.now w q) }
 {
+    let firsts = gather(alloc, inits, 0)?;
+    let first = number_of(opening);
     let mut rows = empty_rows(alloc, inits.len())?;
-    let mut current = opening;
+    let mut current = first;
     let mut since = w;
     let mut seen = w;
-    let mut firsts_left = firsts;
-    let mut terms_left = terms_of(terms, opening, seen, q);
+    let mut firsts_left = firsts.as_slice();
+    let mut terms_left = terms_of(terms, first, seen, q);
     'sweep: while let Some(at) = next_point(firsts_left, terms_left) {
         let next = started_at(firsts_left, at);
         since = pass(&mut rows, current, since, next, at)?;
@@ -169,6 +191,7 @@ pub(crate) fn sweep(
         current = next;
         seen = at;
     }
+    // The span that is open at the end of the window goes on to the last value point.
     pass(&mut rows, current, since, None, q + 1)?;
     Ok(rows)
 }

@@ -3,7 +3,10 @@ ghost use Rattle.std.specs.Prelude.{◌≡◌, length, map, IfOk};
 ghost use Rattle.std.specs.List.{AllByRecursion};
 ghost use Rattle.simple_fluent.specs.Rows.{IsInside, IsValueBelow};
 
-use super::*;
+use crate::spans_of;
+use ground_types::{Point, Value};
+use span_algebra::{Points, Spans};
+use std::alloc::Global;
 use std::process::Abort;
 use std::test::Fail;
 

@@ -2,14 +2,16 @@ use Rattle.std.proofs.Common.{sym, arith}
 use Rattle.span_algebra.proofs.Parts.{rising_lower}
 use Rattle.simple_fluent.proofs.Sweeping.{sweeping_start, sweeping_more, sweeping_end, can_pass}
 use Rattle.simple_fluent.proofs.Sweeping.{can_end, event_is}
-use Rattle.simple_fluent.proofs.sweep.sweep.Goals as goal
+use Rattle.simple_fluent.proofs.sweep.spans_of.Goals as goal
 
 pub sweep-init : goal.sweep-init
 sweep-init c =
-    rw (c.in_ok-rows.ensures, c.terms_of-terms_left.ensures.list)
+    let firsts = c.as_slice-firsts_left.ensures.value in
+    rw (c.in_ok-rows.ensures, c.terms_of-terms_left.ensures.list, c.number_of-first.ensures, firsts)
     (sweeping_start _ _ _ _ _ _ c.requires.opening c.requires.inits_inside c.requires.terms_inside
-    (rw (← c.terms_of-terms_left.ensures.list) c.terms_of-terms_left.ensures.rising)
-    c.requires.firsts_rise c.requires.firsts (omega arith))
+    (rw (← c.number_of-first.ensures, ← c.terms_of-terms_left.ensures.list)
+    c.terms_of-terms_left.ensures.rising)
+    c.in_ok-firsts.ensures.rises c.in_ok-firsts.ensures.each (omega arith))
 
 pub pass-requires : goal.pass-requires
 pass-requires c = can_pass _ _ _ _ _ _ _ _ _ _ _ _ c.sweep.invariant (sym c.in-Some.ensures) _

@@ -1,6 +1,6 @@
 use Rattle.std.proofs.Common.{◌+◌, ◌-◌}
 use Rattle.simple_fluent.proofs.Sweeping.{IsSweeping}
-use Rattle.simple_fluent.proofs.sweep.sweep.Given as goal
+use Rattle.simple_fluent.proofs.sweep.spans_of.Given as goal
 
 abbrev pub invariant-sweep : goal.invariant-sweep
 invariant-sweep l =
