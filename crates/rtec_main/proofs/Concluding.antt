@@ -1,7 +1,8 @@
 -- Where inputs are told and none failed, the answer of a task is what their bytes come to.
-use Rattle.std.proofs.Common.{◌≡◌, ◌⊎◌, inl, inr, ℕ, List, map, Option, Some, None, Ok, refl, sym}
-use Rattle.std.proofs.Common.{ap, ◌∙◌}
-use Rattle.std.specs.Prelude.{IfSome}
+use Rattle.std.proofs.Common.{◌≡◌, ◌⊎◌, inl, inr, ℕ, List, map, Option, Some, None, Result, Ok, Err}
+use Rattle.std.proofs.Common.{refl, sym, ap, ◌∙◌, subst}
+use Rattle.std.specs.Prelude.{IfSome, Vec}
+use Rattle.std.specs.declared.alloc.Global.{Global}
 use Rattle.rt_base.specs.Outside.{Rose}
 use Rattle.rule_forms.specs.Forms.{plain}
 use Rattle.decl_known.specs.Checked.{plain_checked}
@@ -17,8 +18,9 @@ use Rattle.rtec_main.specs.Script.{commands_of, IsScriptOf}
 use Rattle.rtec_main.specs.Recognised.{IsPlainScript}
 use Rattle.rtec_main.specs.Reads.{IsDescriptionOf, IsSoundDescription, IsWhyNoDescription}
 use Rattle.rtec_main.specs.Reads.{description_status, IsWhyNoScript, script_status}
-use Rattle.rtec_main.specs.Run.{Concludes, World, Recognise, Ground, status_of_plain}
-use Rattle.rtec_main.specs.Run.{script_outcome, IsRecogniseOutcome, ground_outcome}
+use Rattle.rtec_main.specs.Run.{Task, Recognise, Ground, status_of_plain, script_outcome}
+use Rattle.rtec_main.specs.Run.{IsRecogniseOutcome, ground_outcome}
+use Rattle.rtec_main.specs.Tasks.{ConcludesAny}
 use Rattle.rtec_main.proofs.Refusals.{description_outcome, short_outcome, script_outcome_is}
 use Rattle.rtec_main.proofs.PlainScripts.{parts_plain}
 
@@ -29,10 +31,19 @@ none_told None script P all = tt
 none_told (Some d) None P all = tt
 none_told (Some d) (Some s) P all = all d s
 
-pub spent_report : (old new : World) (name script : List ℕ)
-    → Concludes old new (Recognise name script) status.OutOfMemory
-spent_report old new name script = none_told (old.bytes name) (old.bytes script) _
-    (λ d s well fine. inl refl)
+-- a refusal concludes as its status does
+refused_by : (bytes : List ℕ → Option (List ℕ)) (before now : List ℕ → ℕ) (task : Task)
+    (s : Status) (result : Result (Vec ℕ Global) Status) → result ≡ Err s
+    → ConcludesAny bytes before now task (Err s) → ConcludesAny bytes before now task result
+refused_by bytes before now task s result is so =
+    subst (ConcludesAny bytes before now task) (sym is) so
+
+pub spent_report : (bytes : List ℕ → Option (List ℕ)) (before now : List ℕ → ℕ)
+    (name script : List ℕ) (result : Result (Vec ℕ Global) Status)
+    → result ≡ Err status.OutOfMemory → ConcludesAny bytes before now (Recognise name script) result
+spent_report bytes before now name script result is =
+    refused_by bytes before now (Recognise name script) status.OutOfMemory result is
+    (λ taken writes. none_told (bytes name) (bytes script) _ (λ d s well fine. inl refl))
 
 -- ---- a refused description
 
@@ -47,13 +58,15 @@ report_by_bytes (Some d) (Some s) before now Fine refused why =
     λ well fine. description_outcome (λ is t. IsRecogniseOutcome is s t) refl (λ fault. refl)
     (λ which. refl) d before now refused why well
 
-pub refused_report_concludes : (old new : World) (name script : List ℕ)
-    (refused : DescriptionRefused)
-    → IsWhyNoDescription (old.bytes name) (old.faults name) (new.faults name) refused
-    → Concludes old new (Recognise name script) (description_status refused)
-refused_report_concludes old new name script refused why =
-    report_by_bytes (old.bytes name) (old.bytes script) (old.faults name) (new.faults name)
-    (Rose (old.faults script) (new.faults script) → ⊥) refused why
+pub refused_report_concludes : (bytes : List ℕ → Option (List ℕ)) (before now : List ℕ → ℕ)
+    (name script : List ℕ) (refused : DescriptionRefused)
+    → IsWhyNoDescription (bytes name) (before name) (now name) refused
+    → (result : Result (Vec ℕ Global) Status) → result ≡ Err (description_status refused)
+    → ConcludesAny bytes before now (Recognise name script) result
+refused_report_concludes bytes before now name script refused why result is =
+    refused_by bytes before now (Recognise name script) (description_status refused) result is
+    (λ taken writes. report_by_bytes (bytes name) (bytes script) (before name) (now name)
+    (Rose (before script) (now script) → ⊥) refused why)
 
 grounding_by_bytes : (description : Option (List ℕ)) (before now : ℕ)
     (refused : DescriptionRefused) → IsWhyNoDescription description before now refused
@@ -65,11 +78,14 @@ grounding_by_bytes (Some d) before now refused why =
     λ well. description_outcome (λ is t. t ≡ ground_outcome is) refl (λ fault. refl) (λ which.
     refl) d before now refused why well
 
-pub refused_grounding_concludes : (old new : World) (name : List ℕ) (refused : DescriptionRefused)
-    → IsWhyNoDescription (old.bytes name) (old.faults name) (new.faults name) refused
-    → Concludes old new (Ground name) (description_status refused)
-refused_grounding_concludes old new name refused why = grounding_by_bytes (old.bytes name)
-    (old.faults name) (new.faults name) refused why
+pub refused_grounding_concludes : (bytes : List ℕ → Option (List ℕ)) (before now : List ℕ → ℕ)
+    (name : List ℕ) (refused : DescriptionRefused)
+    → IsWhyNoDescription (bytes name) (before name) (now name) refused
+    → (result : Result (Vec ℕ Global) Status) → result ≡ Err (description_status refused)
+    → ConcludesAny bytes before now (Ground name) result
+refused_grounding_concludes bytes before now name refused why result is =
+    refused_by bytes before now (Ground name) (description_status refused) result is
+    (λ taken writes. grounding_by_bytes (bytes name) (before name) (now name) refused why)
 
 -- ---- a description that was taken
 
@@ -110,17 +126,18 @@ refused_by_bytes (Some s) before now found sound refused why =
       | inr e ↦ inr (found.program, sound.is_program, e)
     ]
 
-pub refused_script_concludes : (old new : World) (name script : List ℕ) (found : Description)
-    → IsSoundDescription found → IfSome (old.bytes name) (λ text. IsDescriptionOf text found)
-    → (refused : ScriptRefused) → IsWhyNoScript (old.bytes script) (old.faults script)
-    (new.faults script) found.program refused
-    → Concludes old new (Recognise name script) (script_status refused)
-refused_script_concludes old new name script found sound is refused why =
-    taken_by_bytes (old.bytes name) (old.bytes script) found (script_status refused)
-    (Rose (old.faults name) (new.faults name) → ⊥) (Rose (old.faults script) (new.faults script)
-    → ⊥) is
-    (refused_by_bytes (old.bytes script) (old.faults script) (new.faults script) found sound
-    refused why)
+pub refused_script_concludes : (bytes : List ℕ → Option (List ℕ)) (before now : List ℕ → ℕ)
+    (name script : List ℕ) (found : Description)
+    → IsSoundDescription found → IfSome (bytes name) (λ text. IsDescriptionOf text found)
+    → (refused : ScriptRefused)
+    → IsWhyNoScript (bytes script) (before script) (now script) found.program refused
+    → (result : Result (Vec ℕ Global) Status) → result ≡ Err (script_status refused)
+    → ConcludesAny bytes before now (Recognise name script) result
+refused_script_concludes bytes before now name script found sound described refused why result is =
+    refused_by bytes before now (Recognise name script) (script_status refused) result is
+    (λ taken writes. taken_by_bytes (bytes name) (bytes script) found (script_status refused)
+    (Rose (before name) (now name) → ⊥) (Rose (before script) (now script) → ⊥) described
+    (refused_by_bytes (bytes script) (before script) (now script) found sound refused why))
 
 given_by_bytes : (script : Option (List ℕ)) (Well : Type 0) (found : Description)
     → IsSoundDescription found → (given : Script)
@@ -138,17 +155,17 @@ given_by_bytes (Some s) Well found sound given is parts =
           ∙ ap status_of_plain (parts_plain (commands_of given.commands) parts)),
     )
 
-pub report_concludes : (old new : World) (name script : List ℕ) (found : Description)
-    → IsSoundDescription found → IfSome (old.bytes name) (λ text. IsDescriptionOf text found)
-    → (given : Script) → IfSome (old.bytes script) (λ text. IsScriptOf found.program text given)
-    → IsPlainScript (commands_of given.commands) → Concludes old new (Recognise name script)
-    status.Done
-report_concludes old new name script found sound is given scripted parts =
-    taken_by_bytes (old.bytes name) (old.bytes script) found status.Done
-    (Rose (old.faults name) (new.faults name) → ⊥) (Rose (old.faults script) (new.faults script)
-    → ⊥) is
-    (given_by_bytes (old.bytes script) (Rose (old.faults script) (new.faults script) → ⊥) found
-    sound given scripted parts)
+pub report_concludes : (bytes : List ℕ → Option (List ℕ)) (before now : List ℕ → ℕ)
+    (name script : List ℕ) (found : Description)
+    → IsSoundDescription found → IfSome (bytes name) (λ text. IsDescriptionOf text found)
+    → (given : Script) → IfSome (bytes script) (λ text. IsScriptOf found.program text given)
+    → IsPlainScript (commands_of given.commands) → (text : Vec ℕ Global)
+    → ConcludesAny bytes before now (Recognise name script) (Ok text)
+report_concludes bytes before now name script found sound is given scripted parts text =
+    λ taken writes. taken_by_bytes (bytes name) (bytes script) found status.Done
+    (Rose (before name) (now name) → ⊥) (Rose (before script) (now script) → ⊥) is
+    (given_by_bytes (bytes script) (Rose (before script) (now script) → ⊥) found sound given
+    scripted parts)
 
 grounding_taken : (description : Option (List ℕ)) (Well : Type 0) (found : Description)
     → IfSome description (λ d. IsDescriptionOf d found)
@@ -163,8 +180,9 @@ grounding_taken (Some d) Well found is =
       refl,
     )
 
-pub grounding_concludes : (old new : World) (name : List ℕ) (found : Description)
-    → IfSome (old.bytes name) (λ text. IsDescriptionOf text found)
-    → Concludes old new (Ground name) status.Done
-grounding_concludes old new name found is = grounding_taken (old.bytes name)
-    (Rose (old.faults name) (new.faults name) → ⊥) found is
+pub grounding_concludes : (bytes : List ℕ → Option (List ℕ)) (before now : List ℕ → ℕ)
+    (name : List ℕ) (found : Description)
+    → IfSome (bytes name) (λ text. IsDescriptionOf text found) → (text : Vec ℕ Global)
+    → ConcludesAny bytes before now (Ground name) (Ok text)
+grounding_concludes bytes before now name found is text =
+    λ taken writes. grounding_taken (bytes name) (Rose (before name) (now name) → ⊥) found is

@@ -100,9 +100,10 @@ by_checked : (text : List ℕ) (statements : List PlainStatement) (given : Resul
 by_checked text statements given d read e h = by_reading text (Statements statements) d read
     (subst (λ c. ByChecking statements c d) (sym e) h)
 
-refused_so : (text : List ℕ) (refusal : DeclRefused) (d : Described) → d ≡ by_refusal refusal
-    → IsRefused text refusal → ByReading (reading text) d
-refused_so text refusal d e h = by_checked text h.0 (Err refusal) d h.1 h.2 e
+refused_so : (text : List ℕ) (refusal : DeclRefused) → IsRefused text refusal
+    → ByReading (reading text) (by_refusal refusal)
+refused_so text refusal h =
+    by_checked text h.0 (Err refusal) (by_refusal refusal) h.1 h.2 refl
 
 faulty_so : (text : List ℕ) (why : DescFault) → IsFaulty text why
     → ByReading (reading text) (Faulty why)
@@ -110,23 +111,15 @@ faulty_so text (fault.BadByte line) h = by_reading text (BadByte line)
     (Faulty (fault.BadByte line)) h refl
 faulty_so text (fault.BadStatement line) h = by_reading text (BadStatement line)
     (Faulty (fault.BadStatement line)) h refl
-faulty_so text fault.BadPlan h = refused_so text refused.BadPlan (Faulty fault.BadPlan) refl h
-faulty_so text (fault.TooMany line) h = refused_so text (refused.TooMany line)
-    (Faulty (fault.TooMany line)) refl h
-faulty_so text (fault.Undeclared line) h = refused_so text (refused.Undeclared line)
-    (Faulty (fault.Undeclared line)) refl h
-faulty_so text (fault.Twice line) h = refused_so text (refused.Twice line)
-    (Faulty (fault.Twice line)) refl h
-faulty_so text (fault.NoTrigger line) h = refused_so text (refused.NoTrigger line)
-    (Faulty (fault.NoTrigger line)) refl h
-faulty_so text (fault.WrongKind line) h = refused_so text (refused.WrongKind line)
-    (Faulty (fault.WrongKind line)) refl h
-faulty_so text (fault.Arity line) h = refused_so text (refused.Arity line)
-    (Faulty (fault.Arity line)) refl h
-faulty_so text (fault.Clash line) h = refused_so text (refused.Clash line)
-    (Faulty (fault.Clash line)) refl h
-faulty_so text (fault.Loose line) h = refused_so text (refused.Loose line)
-    (Faulty (fault.Loose line)) refl h
+faulty_so text fault.BadPlan h = refused_so text refused.BadPlan h
+faulty_so text (fault.TooMany line) h = refused_so text (refused.TooMany line) h
+faulty_so text (fault.Undeclared line) h = refused_so text (refused.Undeclared line) h
+faulty_so text (fault.Twice line) h = refused_so text (refused.Twice line) h
+faulty_so text (fault.NoTrigger line) h = refused_so text (refused.NoTrigger line) h
+faulty_so text (fault.WrongKind line) h = refused_so text (refused.WrongKind line) h
+faulty_so text (fault.Arity line) h = refused_so text (refused.Arity line) h
+faulty_so text (fault.Clash line) h = refused_so text (refused.Clash line) h
+faulty_so text (fault.Loose line) h = refused_so text (refused.Loose line) h
 faulty_so text (fault.Cyclic line) (statements, checked, place, declares, cycle) =
     by_checked text statements (Ok checked) (Faulty (fault.Cyclic line)) declares.0 declares.1
     (inl (place, line, cycle, refl))

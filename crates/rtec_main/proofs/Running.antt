@@ -1,12 +1,14 @@
 -- What the answer of a task says of a run.
-use Rattle.std.proofs.Common.{◌≡◌, inl, inr, ℕ, List, map, Option, Err}
-use Rattle.std.specs.Prelude.{IfSome}
+use Rattle.std.proofs.Common.{◌≡◌, inl, inr, ℕ, List, map, Option, Result, Err, sym, subst}
+use Rattle.std.specs.Prelude.{IfSome, Vec}
+use Rattle.std.specs.declared.alloc.Global.{Global}
 use Rattle.std.proofs.lemmas.Option.{IfSome_then}
 use Rattle.rule_forms.specs.Forms.{plain}
 use Rattle.decl_known.specs.Checked.{plain_checked}
 use Rattle.stream_read.specs.declared.script.Script.{Script}
 use Rattle.rtec_main.specs.declared.inputs.Description.{Description}
 use Rattle.rtec_main.specs.declared.script.ScriptRefused.{ScriptRefused}
+use Rattle.run_status.specs.declared.status.Status.{Status}
 use Rattle.rtec_main.specs.Described.{IsDescribed, Describes}
 use Rattle.rtec_main.specs.Script.{commands_of, IsScriptOf}
 use Rattle.rtec_main.specs.Recognised.{IsPlainScript}
@@ -14,7 +16,7 @@ use Rattle.report_text.specs.Report.{report_text}
 use Rattle.ground_text.specs.GroundText.{ground_text}
 use Rattle.rtec_main.specs.Reads.{IsDescriptionOf, IsSoundDescription, IsWhyNoScript, script_status}
 use Rattle.rtec_main.specs.Run.{World, Recognise, Runs, IsReport, IsGrounding}
-use Rattle.rtec_main.specs.Tasks.{Gives}
+use Rattle.rtec_main.specs.Tasks.{world_of, Gives, Answers}
 use Rattle.rtec_main.proofs.Refusals.{script_says}
 use Rattle.rtec_main.proofs.PlainScripts.{parts_plain}
 
@@ -39,14 +41,26 @@ runs_by world name found sound is = record {
 }
 
 -- a refused script
-pub refused_script : (old new : World) (name script : List ℕ) (found : Description)
+refused_script_gives : (old new : World) (name script : List ℕ) (found : Description)
     → IsSoundDescription found → IfSome (old.bytes name) (λ text. IsDescriptionOf text found)
     → (refused : ScriptRefused)
     → IsWhyNoScript (old.bytes script) (old.faults script) (new.faults script) found.program refused
     → Gives old new (Recognise name script) (Err (script_status refused))
-refused_script old new name script found sound is refused why =
+refused_script_gives old new name script found sound is refused why =
     elim (script_says old new name script found.program (runs_by old name found sound is) refused
     why) [ inl e ↦ inl e | inr says ↦ inr (inr says) ]
+
+pub refused_script : (bytes : List ℕ → Option (List ℕ)) (before now : List ℕ → ℕ)
+    (name script : List ℕ) (found : Description)
+    → IsSoundDescription found → IfSome (bytes name) (λ text. IsDescriptionOf text found)
+    → (refused : ScriptRefused)
+    → IsWhyNoScript (bytes script) (before script) (now script) found.program refused
+    → (result : Result (Vec ℕ Global) Status) → result ≡ Err (script_status refused)
+    → Answers bytes before now (Recognise name script) result
+refused_script bytes before now name script found sound described refused why result is =
+    subst (Answers bytes before now (Recognise name script)) (sym is)
+    (λ taken writes. refused_script_gives (world_of bytes before taken writes)
+    (world_of bytes now taken writes) name script found sound described refused why)
 
 -- a report
 pub report_given : (old : World) (name script : List ℕ) (found : Description)

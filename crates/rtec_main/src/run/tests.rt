@@ -123,13 +123,34 @@ fn recognised(
     description: &str,
     script: &str,
 ) -> Result<String, Fail> {
-    of_files(rt, "recognise|desc|script", description, script)
+    of_files(rt, REPORT, description, script)
 }
 
 // The text with one part of it changed.
 fn changed(alloc: Global, text: &str, from: &str, to: &str) -> Result<String, Fail> {
     let (front, back) = text.split_once(from).ok_or("the part is not there")?;
     Ok(format!(in alloc; "{front}{to}{back}")?)
+}
+
+// What `recognise` says of the lamp with one part of its description changed.
+fn of_changed_lamp(
+    rt: &(impl Threads + Sync + AllocGlobal),
+    from: &str,
+    to: &str,
+    script: &str,
+) -> Result<String, Fail> {
+    let description = changed(rt.alloc(), LAMP, from, to)?;
+    recognised(rt, description.as_str(), script)
+}
+
+// What `recognise` says of the lamp where one part of its first run is changed.
+fn of_changed_run(
+    rt: &(impl Threads + Sync + AllocGlobal),
+    from: &str,
+    to: &str,
+) -> Result<String, Fail> {
+    let script = changed(rt.alloc(), FIRST_RUN, from, to)?;
+    recognised(rt, LAMP, script.as_str())
 }
 
 // A long text: the front, the piece for each number from 2 to the last one, with the number in

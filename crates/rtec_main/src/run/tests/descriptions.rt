@@ -1,5 +1,5 @@
 // Descriptions that are refused.
-use super::{FIRST_RUN, LAMP, Long, MEETING, REPORT, changed, of_files, recognised, written_out};
+use super::{FIRST_RUN, Long, MEETING, REPORT, of_changed_lamp, of_files, recognised, written_out};
 use std::test::Fail;
 
 // The first rule of the lamp.
@@ -67,8 +67,7 @@ fn the_first_fault_of_a_text_is_named(rt: HostRuntime) -> Result<(), Fail> {
         ("from(0).", "queries(0).", "3 description: bad plan\n"),
     ];
     for (from, to, wanted) in rows {
-        let description = changed(rt.alloc(), LAMP, from, to)?;
-        let found = recognised(&rt, description.as_str(), FIRST_RUN)?;
+        let found = of_changed_lamp(&rt, from, to, FIRST_RUN)?;
         assert_eq!(rt; found.as_str(), wanted, "{to:?}");
     }
     Ok(())
@@ -143,8 +142,7 @@ fn the_first_fault_of_a_declaration_or_a_rule_is_named(rt: HostRuntime) -> Resul
         ),
     ];
     for (from, to, wanted) in rows {
-        let description = changed(rt.alloc(), LAMP, from, to)?;
-        let found = recognised(&rt, description.as_str(), FIRST_RUN)?;
+        let found = of_changed_lamp(&rt, from, to, FIRST_RUN)?;
         assert_eq!(rt; found.as_str(), wanted, "{to:?}");
     }
     Ok(())

@@ -1,5 +1,7 @@
 // Whole reports and ground texts, as worked by hand.
-use super::{FIRST_REPORT, FIRST_RUN, LAMP, MEETING, changed, of_files, recognised};
+use super::{
+    FIRST_REPORT, FIRST_RUN, LAMP, MEETING, of_changed_lamp, of_changed_run, of_files, recognised,
+};
 use std::test::Fail;
 
 // The lamp under the greatest plan.
@@ -122,8 +124,7 @@ fn spaces_comments_and_the_order_of_declarations_are_free(rt: HostRuntime) -> Re
         ("input down.\n", "input down.\n% not text: \u{e9}\n"),
     ];
     for (from, to) in rows {
-        let description = changed(rt.alloc(), LAMP, from, to)?;
-        let found = recognised(&rt, description.as_str(), FIRST_RUN)?;
+        let found = of_changed_lamp(&rt, from, to, FIRST_RUN)?;
         assert_eq!(rt; found.as_str(), FIRST_REPORT, "{to:?} for {from:?}");
     }
     Ok(())
@@ -139,8 +140,7 @@ fn records_are_read_as_csv_readers_do(rt: HostRuntime) -> Result<(), Fail> {
         ("seal\n", "seal\r"),
     ];
     for (from, to) in rows {
-        let script = changed(rt.alloc(), FIRST_RUN, from, to)?;
-        let found = recognised(&rt, LAMP, script.as_str())?;
+        let found = of_changed_run(&rt, from, to)?;
         assert_eq!(rt; found.as_str(), FIRST_REPORT, "{to:?} for {from:?}");
     }
     Ok(())

@@ -1,5 +1,5 @@
 // Rows of fluents and points of derived events, as worked by hand: the block of the query.
-use super::{FIRST_RUN, LAMP, Long, changed, recognised, written_out};
+use super::{FIRST_RUN, Long, changed, of_changed_lamp, recognised, written_out};
 use std::test::Fail;
 
 // A fluent of two values.
@@ -141,8 +141,7 @@ fn derived_events_and_openings_are_as_worked_by_hand(rt: HostRuntime) -> Result<
         ),
     ];
     for (from, to, script, block) in rows {
-        let description = changed(rt.alloc(), LAMP, from, to)?;
-        let found = recognised(&rt, description.as_str(), script)?;
+        let found = of_changed_lamp(&rt, from, to, script)?;
         assert!(rt; shows(found.as_str(), block), "{block} in {found}");
     }
     Ok(())

@@ -1,5 +1,5 @@
 // Scripts that are refused, records that are ignored, and the bounds of descriptions and scripts.
-use super::{FIRST_RUN, LAMP, Long, changed, recognised, written_out};
+use super::{LAMP, Long, of_changed_run, recognised, written_out};
 use std::alloc::Global;
 use std::test::Fail;
 use std::thread::Threads;
@@ -77,8 +77,7 @@ fn the_first_record_without_a_form_is_named(rt: HostRuntime) -> Result<(), Fail>
         ("seal\n", "seal,\n", "4 input 1 record 4: bad record\n"),
     ];
     for (from, to, wanted) in rows {
-        let script = changed(rt.alloc(), FIRST_RUN, from, to)?;
-        let found = recognised(&rt, LAMP, script.as_str())?;
+        let found = of_changed_run(&rt, from, to)?;
         assert_eq!(rt; found.as_str(), wanted, "{to:?} for {from:?}");
     }
     Ok(())
