@@ -249,7 +249,8 @@ initiation_named i form rule n given is = absurd (cc)
 
 termination_named : (i : Instance) (form : PlainForm) (rule : Rule) (n : ℕ) → termination_by i form
     ≡ Some rule → contains (units_of_rule rule) n ≡ true → IsNamed i (behind form) n
-termination_named i (Terminated fv bodies) rule n given is = conditions_alone i bodies rule n given is
+termination_named i (Terminated fv bodies) rule n given is =
+    conditions_alone i bodies rule n given is
 termination_named i form rule n given is = absurd (cc)
 
 occurrence_named : (i : Instance) (form : PlainForm) (rule : Rule) (n : ℕ) → occurrence_by i form

@@ -5,3 +5,4 @@ pub mod Points
 pub mod Rows
 pub mod Runs
 pub mod Inertia
+pub mod Legal

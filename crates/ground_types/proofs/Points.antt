@@ -80,12 +80,15 @@ not_below p u xs ys right same low =
     let both : true ≡ false = sym hit ∙ same p ∙ none in
     cc
 
-same_points_behind : (p : ℕ) (xs ys : List ℕ) → ArePointsFrom (p + 1) xs → ArePointsFrom (p + 1) ys →
-    ((t : ℕ) → contains (p ∷ xs) t ≡ contains (p ∷ ys) t) → (t : ℕ) → (t ≤ p) ⊎ (p < t)
+same_points_behind : (p : ℕ) (xs ys : List ℕ) → ArePointsFrom (p + 1) xs
+    → ArePointsFrom (p + 1) ys
+    → ((t : ℕ) → contains (p ∷ xs) t ≡ contains (p ∷ ys) t) → (t : ℕ) → (t ≤ p) ⊎ (p < t)
     → contains xs t ≡ contains ys t
-same_points_behind p xs ys left right same t (inl low) = contains_floor (p + 1) xs t left (omega arith)
+same_points_behind p xs ys left right same t (inl low) =
+    contains_floor (p + 1) xs t left (omega arith)
     ∙ sym (contains_floor (p + 1) ys t right (omega arith))
-same_points_behind p xs ys left right same t (inr high) = sym (contains_miss p xs t (inr high)) ∙ same t
+same_points_behind p xs ys left right same t (inr high) =
+    sym (contains_miss p xs t (inr high)) ∙ same t
     ∙ contains_miss p ys t (inr high)
 
 -- rising lists with the same points are the same

@@ -1,30 +1,15 @@
 -- The history that is made of commands is legal.
-use Rattle.std.proofs.Common.{◌≤◌, List, [], ◌∷◌, ◌++◌, refl, sym, subst, append_assoc, append-nil}
-use Rattle.ground_types.specs.History.{seals, reply_to, FollowsLegally, AreLegalAfter, IsLegal}
+use Rattle.std.proofs.Common.{◌≤◌, List, [], ◌∷◌, ◌++◌, refl, sym, subst, append-nil}
+use Rattle.ground_types.specs.History.{seals, reply_to, AreLegalAfter, IsLegal}
 use Rattle.ground_types.specs.declared.plan.Plan.{Plan}
 use Rattle.ground_types.specs.declared.entries.Entry.{Entry}
 use Rattle.ground_types.specs.declared.entries.Entry.TheVariants.{Fed, Seal}
 use Rattle.ground_types.specs.declared.entries.Command.{Command}
 use Rattle.ground_types.specs.declared.entries.Command.TheVariants as command
+use Rattle.ground_types.proofs.Legal.{legal_push}
 use Rattle.report_text.specs.Report.{entries_of, history_after, history_of}
 
--- a legal history goes on legally with an entry that follows it legally
-legal_push : (plan : Plan) (before xs : List Entry) (x : Entry) → AreLegalAfter plan before xs
-    → FollowsLegally plan (before ++ xs) x →
-    AreLegalAfter plan before (xs ++ x ∷ [])
-legal_push plan before [] x legal last = (
-  subst (λ (h : List Entry). FollowsLegally plan h x)
-      (append-nil before) last,
-  tt,
-)
-legal_push plan before (y ∷ ys) x legal last = (
-  legal.0,
-  legal_push plan (before ++ y ∷ []) ys x legal.1
-      (subst (λ (h : List Entry). FollowsLegally plan h x) (sym (append_assoc before (y ∷ []) ys))
-      last),
-)
-
--- so it does with the entry of a command
+-- a legal history goes on legally with the entry of a command
 legal_more : (plan : Plan) (history : List Entry) (c : Command) → AreLegalAfter plan [] history →
     AreLegalAfter plan [] (history ++ entries_of plan history c)
 legal_more plan history (command.Feed feeder act event at) legal =

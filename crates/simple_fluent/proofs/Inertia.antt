@@ -158,8 +158,9 @@ in_window_by w q t p false c same low high go is = go is
 pub inside_is : (w q : ℕ) (xs : List ℕ) (t : ℕ) → IsInside w q xs → contains xs t ≡ true
     → IsIn w q t
 inside_is w q [] t inside is = cc
-inside_is w q (p ∷ rest) t inside is = in_window_by w q t p (eqb p t) (contains rest t) refl inside.0
-    inside.1 (inside_is w q rest t inside.2) is
+inside_is w q (p ∷ rest) t inside is =
+    in_window_by w q t p (eqb p t) (contains rest t) refl inside.0 inside.1
+    (inside_is w q rest t inside.2) is
 
 least_by : (w q t v u : ℕ) (b : Bool) (o : Option ℕ) → (b ≡ true → IsIn w q t)
     → (o ≡ Some u → IsIn w q t) → cond b (Some v) o ≡ Some u → IsIn w q t

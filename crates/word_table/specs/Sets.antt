@@ -7,7 +7,8 @@ use Rattle.ground_types.specs.Words.{has}
 abbrev pub HaveSame : List (List ℕ) → List (List ℕ) → Type 0
 HaveSame words others = (word : List ℕ) → has words word ≡ has others word
 
--- The set has the words of the list, each once, and it is the list where no word stands there twice.
+-- The set has the words of the list, each once, and it is the list where no word stands there
+-- twice.
 pub record IsSetOf (set words : List (List ℕ)) : Type 0 where
   pub once : is_distinct set ≡ true
   pub same : HaveSame set words

@@ -20,7 +20,8 @@ loop-clause-preserved c =
     in
     let conditions : c.saturating_mul-conditions.result
     ≡ capped (count * capped (conditions_in clause.form)) =
-    c.saturating_mul-conditions.ensures ∙ ap (λ n. capped (count * n)) (c.in_ok-conditions_in.ensures
+    c.saturating_mul-conditions.ensures
+    ∙ ap (λ n. capped (count * n)) (c.in_ok-conditions_in.ensures
     ∙ ap (λ f. capped (conditions_in f)) c.form-form.ensures) in
     rw (
       next_of clause_of c.args.clauses.now c.loop-clause.clause-index c.clause-item.result

@@ -9,5 +9,6 @@ invariant-loop-unit l =
     l.out.items
     ≡ l.fn.out.items
     ++ flat_map (λ unit. numbered_text l.self.program.now.domains l.self.program.now.names l.layer
-    (slice_get (map plain_unit l.self.program.now.units) unit) (listed_at l.self.instances.now unit))
+    (slice_get (map plain_unit l.self.program.now.units) unit)
+    (listed_at l.self.instances.now unit))
     (take l.unit-index l.units)

@@ -9,8 +9,8 @@ use Rattle.ground_text.proofs.printing.Listing.put_layers.Goals as goal
 pub loop-place-preserved : goal.loop-place-preserved
 loop-place-preserved c =
     numbered_more (layer_text (plain_program c.args.self.now.program.now)
-    (flat_map instances (clauses_in c.args.self.now.instances.now))) c.args.self.now.program.now.layers
-    c.loop-place.place c.units-item.result
+    (flat_map instances (clauses_in c.args.self.now.instances.now)))
+    c.args.self.now.program.now.layers c.loop-place.place c.units-item.result
     c.args.out.now.items c.loop-place.out.items c.put_layer.new.out.items
     (subst (λ layers. c.loop-place.place < length layers) c.as_slice-units-items.ensures
     c.loop-place-test.true)
@@ -24,7 +24,8 @@ loop-place-preserved c =
 pub returns : goal.returns
 returns c =
     c.loop-place.invariant
-    ∙ ap (λ layers. c.args.out.now.items ++ flat_map (layer_text (plain_program c.args.self.now.program.now)
+    ∙ ap (λ layers. c.args.out.now.items
+    ++ flat_map (layer_text (plain_program c.args.self.now.program.now)
     (flat_map instances (clauses_in c.args.self.now.instances.now))) layers)
     (numbered_all c.args.self.now.program.now.layers c.loop-place.place
     (omega (arith, c.loop-place-test.false, ap length c.as_slice-units-items.ensures)))
