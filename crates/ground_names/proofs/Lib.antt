@@ -1,4 +1,5 @@
 mod InputEvents
+pub mod EventBounds
 pub mod Led
 pub mod Caps
 pub mod FirstFound

@@ -1,3 +1,4 @@
+mod OfProgram
 pub mod FieldPlaces
 pub mod NamedPlaces
 pub mod Powers

@@ -4,6 +4,7 @@ ghost use Rattle.ground_types.specs.Sound.{IsSound};
 ghost use Rattle.stream_read.specs.Gathering.{added, Gathers, Ends};
 ghost use Rattle.stream_read.specs.Left.{left, IsReading};
 ghost use Rattle.stream_read.specs.Scripts.{most, records_of, script_of, Answers, IsShape};
+ghost use Rattle.stream_read.specs.Scripts.{AreOfProgram};
 
 use crate::names::Names;
 use crate::records::{Meaning, meaning_of};
@@ -112,29 +113,14 @@ fn at_end(reader: &mut Reader<&[u8]>, row: &mut ByteRecord) -> Result<(), Stream
     Ok(())
 }
 
-/// The commands of a script for this program, each with the number of its record, and how many
-/// records are ignored.
-///
-/// Records are those that CSV readers read with commas and double quotes, without a header row,
-/// with any number of fields; empty lines hold none, fields are not trimmed, and a byte order mark
-/// at the start is taken off. BadRecord comes exactly where one of the first 2,097,152 records has
-/// no form of the shape, at the first such record, counted from 1; else TooMany exactly where there
-/// is a further record. An `add` or `revoke` of its form that names no ground input event is
-/// counted and ignored; an `ask,holds` that names no ground fluent-value has no form. The program
-/// has to be sound, and the number of a feeder 1 to 8. The forms and the limit are this project's
-/// own.
-///
-/// Hash tables of the names and the entities are made once, and each word of a record is looked up
-/// in them once: as long as few words share a hash, the time is linear in the length of the text
-/// and in the numbers of names and entities.
-pub fn commands(
+// What the records of a text come to.
+fn gather_all(
     alloc: Global,
     text: &[u8],
     program: &Program,
     shape: Shape,
 ) -> Result<Script, StreamRefused>
     requires sound { IsSound program.now }
-    requires shape { IsShape shape }
     ensures exact { Answers result (script_of program.now shape (records_of text.now)) }
 {
     let names = Names::new(alloc, program)?;
@@ -148,4 +134,33 @@ pub fn commands(
     }
     at_end(&mut reader, &mut row)?;
     Ok(gathered.into_script())
+}
+
+/// The commands of a script for this program, each with the number of its record, and how many
+/// records are ignored.
+///
+/// Records are those that CSV readers read with commas and double quotes, without a header row,
+/// with any number of fields; empty lines hold none, fields are not trimmed, and a byte order mark
+/// at the start is taken off. BadRecord comes exactly where one of the first 2,097,152 records has
+/// no form of the shape, at the first such record, counted from 1; else TooMany exactly where there
+/// is a further record. An `add` or `revoke` of its form that names no ground input event is
+/// counted and ignored; an `ask,holds` that names no ground fluent-value has no form. The program
+/// has to be sound, and the number of a feeder 1 to 8. Each add and revoke is of a feeder of 1 to 8
+/// and of an event of the program. The forms and the limit are this project's own.
+///
+/// Hash tables of the names and the entities are made once, and each word of a record is looked up
+/// in them once: as long as few words share a hash, the time is linear in the length of the text
+/// and in the numbers of names and entities.
+pub fn commands(
+    alloc: Global,
+    text: &[u8],
+    program: &Program,
+    shape: Shape,
+) -> Result<Script, StreamRefused>
+    requires sound { IsSound program.now }
+    requires shape { IsShape shape }
+    ensures exact { Answers result (script_of program.now shape (records_of text.now)) }
+    ensures of_program { IfOk result (λ script. AreOfProgram program.now script.commands) }
+{
+    gather_all(alloc, text, program, shape)
 }
