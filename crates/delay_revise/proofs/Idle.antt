@@ -18,7 +18,7 @@ use Rattle.ground_types.specs.declared.program.UnitKind.{UnitKind}
 use Rattle.ground_types.specs.declared.program.UnitKind.TheVariants as unit_kind
 use Rattle.simple_fluent.specs.Rows.{pairs}
 use Rattle.layer_cache.specs.Cached.{empty_by}
-use Rattle.delay_revise.specs.Published.{published}
+use Rattle.query_ask.specs.Right.{published}
 use Rattle.delay_revise.specs.Working.{is_static, rows_over, evaluations_of, evaluations_over}
 use Rattle.delay_revise.proofs.Alike.{row_alike, points_alike}
 use Rattle.delay_revise.proofs.Occurs.{inside_is}

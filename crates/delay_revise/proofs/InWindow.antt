@@ -25,7 +25,7 @@ use Rattle.simple_fluent.specs.Rows.{pairs}
 use Rattle.span_algebra.specs.declared.spans.Span.{Span}
 use Rattle.span_algebra.specs.declared.rows.UnitRows.{UnitRows}
 use Rattle.span_algebra.specs.declared.rows.UnitRows.TheVariants.{Fluent, Event}
-use Rattle.delay_revise.specs.Published.{published}
+use Rattle.query_ask.specs.Right.{published}
 use Rattle.delay_revise.specs.Worked.{IsPut}
 use Rattle.delay_revise.specs.Working.{rows_over, IsInWindow}
 use Rattle.delay_revise.proofs.LookUp.{option_covers, value_covers_pairs}

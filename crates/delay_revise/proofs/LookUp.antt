@@ -43,7 +43,8 @@ use Rattle.span_algebra.specs.Normal.{has, covers as has_span}
 use Rattle.span_algebra.specs.declared.spans.Span.{Span}
 use Rattle.span_algebra.specs.declared.rows.UnitRows.{UnitRows}
 use Rattle.span_algebra.specs.declared.rows.UnitRows.TheVariants.{Fluent, Event}
-use Rattle.delay_revise.specs.Published.{published, Stand, OccurIn, HaveRowsOf}
+use Rattle.delay_revise.specs.Published.{Stand, OccurIn, HaveRowsOf}
+use Rattle.query_ask.specs.Right.{published}
 use Rattle.delay_revise.specs.Worked.{IsWorked}
 use Rattle.delay_revise.proofs.Occurs.{inside_is, occurs_there}
 

@@ -28,7 +28,7 @@ use Rattle.layer_cache.specs.Cached.{empty_rows, all_empty}
 use Rattle.event_store.specs.Standing.{Events}
 use Rattle.point_rule.specs.Known.{known, HasRows}
 use Rattle.span_algebra.specs.declared.rows.UnitRows.{UnitRows}
-use Rattle.delay_revise.specs.Published.{published}
+use Rattle.query_ask.specs.Right.{published}
 use Rattle.delay_revise.specs.Worked.{IsPut, Works}
 use Rattle.delay_revise.specs.Working.{is_static, rows_over, evaluations_over}
 use Rattle.delay_revise.proofs.EachItem.{all_both}

@@ -159,7 +159,8 @@ module _ (program : Program) (history : List Entry) (k : ℕ) (units : List ℕ)
         ≡ is_changed (query_table program history k) (query_table program history (suc k)) rule t
     changed_alike t old_low old_high low high =
         ap₂ (λ (a b : Bool). a || b)
-        (ap₂ differs (trigger_before rule.trigger t trigger_fits_too named_parts.0 old_low low old_high)
+        (ap₂ differs (trigger_before rule.trigger t trigger_fits_too named_parts.0 old_low low
+        old_high)
         (trigger_now rule.trigger t trigger_fits_too named_parts.0 low high))
         (conditions_differ rule.conds t
         (and_parts (nat_lt rule.value values && trigger_fits program rule.trigger)

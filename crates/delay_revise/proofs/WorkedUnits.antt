@@ -30,7 +30,8 @@ use Rattle.layer_cache.specs.Cached.{empty_rows, all_empty}
 use Rattle.event_store.specs.Standing.{Events}
 use Rattle.point_rule.specs.Known.{known}
 use Rattle.span_algebra.specs.declared.rows.UnitRows.{UnitRows}
-use Rattle.delay_revise.specs.Published.{published, Stand}
+use Rattle.delay_revise.specs.Published.{Stand}
+use Rattle.query_ask.specs.Right.{published}
 use Rattle.delay_revise.specs.Worked.{first_rows, IsWorked, IsPut, Works, IsRefusedWithin, WorksAll}
 use Rattle.delay_revise.specs.Working.{evaluations_over, IsInWindow}
 use Rattle.delay_revise.proofs.KindRows.{rows_found}

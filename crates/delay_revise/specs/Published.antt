@@ -4,20 +4,14 @@ use Rattle.std.specs.Prelude.{option_map}
 use Rattle.ground_types.specs.History.{stands, before_seal}
 use Rattle.ground_types.specs.Members.{contains}
 use Rattle.ground_types.specs.Windows.{left, right}
-use Rattle.ground_types.specs.Publication.{PublishedRows, fluent_rows, event_row, publication}
+use Rattle.ground_types.specs.Publication.{publication}
 use Rattle.ground_types.specs.declared.entries.Entry.{Entry}
 use Rattle.ground_types.specs.declared.program.Program.{Program}
 use Rattle.ground_types.specs.declared.program.Unit.{Unit}
 use Rattle.span_algebra.specs.Normal.{has}
 use Rattle.span_algebra.specs.declared.rows.UnitRows.{UnitRows}
-use Rattle.span_algebra.specs.declared.rows.UnitRows.TheVariants.{Fluent, Event}
-use Rattle.simple_fluent.specs.Rows.{pairs}
 use Rattle.event_store.specs.Standing.{Events, standing}
-
--- the rows of a unit, as the definitions have them
-abbrev pub published : UnitRows → PublishedRows
-published (Fluent rows) = fluent_rows (map pairs rows)
-published (Event points) = event_row points
+use Rattle.query_ask.specs.Right.{published}
 
 -- the events of the program that stand after a history are those of the store, at each point of the
 -- window of query 0

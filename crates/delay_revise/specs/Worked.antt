@@ -16,7 +16,8 @@ use Rattle.layer_cache.specs.Cached.{all_empty}
 use Rattle.event_store.specs.Standing.{Events}
 use Rattle.point_rule.specs.Known.{known}
 use Rattle.span_algebra.specs.declared.rows.UnitRows.{UnitRows}
-use Rattle.delay_revise.specs.Published.{published, Stand}
+use Rattle.delay_revise.specs.Published.{Stand}
+use Rattle.query_ask.specs.Right.{published}
 use Rattle.delay_revise.specs.Working.{rows_over, IsInWindow}
 
 -- the rows of a unit that are published at the first seal of a history

@@ -10,7 +10,8 @@ ghost use Rattle.ground_types.specs.Touched.{evaluations, rules_of};
 ghost use Rattle.ground_types.specs.Windows.{left, right};
 ghost use Rattle.ground_types.specs.declared.entries.Entry.{Entry};
 ghost use Rattle.point_rule.specs.Known.{known, HasRows};
-ghost use Rattle.delay_revise.specs.Published.{published, Stand};
+ghost use Rattle.delay_revise.specs.Published.{Stand};
+ghost use Rattle.query_ask.specs.Right.{published};
 ghost use Rattle.delay_revise.specs.Worked.{Works, IsRefusedWithin};
 ghost use Rattle.delay_revise.specs.Working.{is_static, evaluations_over, IsInWindow};
 

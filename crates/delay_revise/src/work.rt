@@ -13,7 +13,7 @@ ghost use Rattle.layer_cache.specs.Told.{told};
 ghost use Rattle.point_rule.specs.Known.{known, HasRows};
 ghost use Rattle.simple_fluent.specs.Rows.{pairs};
 ghost use Rattle.static_fluent.specs.Constructs.{has_members, has_rows};
-ghost use Rattle.delay_revise.specs.Published.{published};
+ghost use Rattle.query_ask.specs.Right.{published};
 ghost use Rattle.delay_revise.specs.Working.{rows_over, evaluations_over, IsInWindow, IsSimple};
 
 use crate::gather::{points_by_value, points_of_rules};

@@ -2,7 +2,7 @@
 // text keeps what it had, and may have a part of what was to be added behind it.
 ghost use Rattle.std.specs.Prelude.{◌≡◌, ◌≤◌, ◌++◌, ◌∷◌, [], map, OnOk};
 ghost use Rattle.ground_types.specs.Windows.{IsSoundPlan};
-ghost use Rattle.delay_revise.specs.Published.{published};
+ghost use Rattle.query_ask.specs.Right.{published};
 ghost use Rattle.text_pieces.specs.Lines.{text_of_lines};
 ghost use Rattle.report_text.specs.Report.{query_line};
 ghost use Rattle.report_text.specs.Printed.{block_of};

@@ -4,7 +4,7 @@
 ghost use Rattle.std.specs.Prelude.{◌≡◌, ◌^◌, ◌<◌, ◌++◌, [], ◌∷◌, not, map, flat_map, length};
 ghost use Rattle.std.specs.Prelude.{sum_by, count_by, codes, decimal, OnOk};
 ghost use Rattle.ground_types.specs.History.{is_seal, seals};
-ghost use Rattle.delay_revise.specs.Published.{published};
+ghost use Rattle.query_ask.specs.Right.{published};
 ghost use Rattle.simple_fluent.specs.Rows.{pairs};
 ghost use Rattle.text_pieces.specs.Lines.{text_of_lines};
 ghost use Rattle.report_text.specs.Report.{has_reply, reply_count_text, entries_line, span_count};

@@ -3,7 +3,7 @@
 ghost use Rattle.std.specs.Prelude.{◌≡◌, ◌++◌, map, flat_map, slice_get, codes, decimal, OnOk};
 ghost use Rattle.ground_types.specs.Publication.{fluent_rows};
 ghost use Rattle.simple_fluent.specs.Rows.{pairs};
-ghost use Rattle.delay_revise.specs.Published.{published};
+ghost use Rattle.query_ask.specs.Right.{published};
 ghost use Rattle.text_pieces.specs.Lines.{text_of_lines};
 ghost use Rattle.text_pieces.specs.Atoms.{unit_atom};
 ghost use Rattle.report_text.specs.Report.{value_words, span_text, fluent_lines, unit_lines};

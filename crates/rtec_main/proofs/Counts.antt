@@ -22,7 +22,7 @@ use Rattle.ground_types.specs.declared.program.Name.{Name}
 use Rattle.ground_types.specs.declared.program.Program.{Program}
 use Rattle.span_algebra.specs.declared.rows.UnitRows.{UnitRows}
 use Rattle.rtec_main.specs.Programs.{has_few_values, IsDeclared}
-use Rattle.delay_revise.specs.Published.{published}
+use Rattle.query_ask.specs.Right.{published}
 use Rattle.report_text.specs.Report.{span_count, point_count}
 use Rattle.std.proofs.lemmas.Bool.{and_parts}
 

@@ -2,7 +2,7 @@
 ghost use Rattle.std.specs.Prelude.{◌≡◌, map, IfOk};
 ghost use Rattle.ground_types.specs.Publication.{publication};
 ghost use Rattle.ground_types.specs.Touched.{evaluations};
-ghost use Rattle.delay_revise.specs.Published.{published};
+ghost use Rattle.query_ask.specs.Right.{published};
 ghost use Rattle.rtec_main.specs.Programs.{IsDeclared};
 ghost use Rattle.rtec_main.specs.Recognised.{IsPlainHistory};
 

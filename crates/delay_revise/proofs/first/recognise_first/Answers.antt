@@ -3,7 +3,7 @@ use Rattle.std.specs.Prelude.{sum_by}
 use Rattle.std.proofs.lemmas.List.Sums.{sum_by_more}
 use Rattle.rt_base.specs.Counted.{Counted}
 use Rattle.layer_cache.specs.Cached.{all_empty}
-use Rattle.delay_revise.specs.Published.{published}
+use Rattle.query_ask.specs.Right.{published}
 use Rattle.delay_revise.specs.Worked.{WorksAll}
 use Rattle.ground_types.specs.Windows.{left, right}
 use Rattle.delay_revise.proofs.Gathering.{on_err}

@@ -4,7 +4,7 @@ use Rattle.std.proofs.lemmas.List.{length_push}
 use Rattle.std.proofs.lemmas.Slice.Zip.{zip_turn, zip_end}
 use Rattle.ground_types.specs.Publication.{PublishedRows}
 use Rattle.ground_types.specs.declared.program.Unit.{Unit as ProgramUnit}
-use Rattle.delay_revise.specs.Published.{published}
+use Rattle.query_ask.specs.Right.{published}
 use Rattle.text_pieces.specs.Lines.{text_of_lines}
 use Rattle.report_text.specs.Report.{unit_lines}
 use Rattle.text_pieces.proofs.LineTexts.{zip_push, zip_whole, grown}

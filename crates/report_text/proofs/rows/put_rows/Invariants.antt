@@ -1,7 +1,7 @@
 use Rattle.std.proofs.Common.{◌≡◌, ◌++◌, length, take, map}
 use Rattle.std.specs.Prelude.{flat_map}
 use Rattle.std.specs.List.{zip}
-use Rattle.delay_revise.specs.Published.{published}
+use Rattle.query_ask.specs.Right.{published}
 use Rattle.text_pieces.specs.Lines.{text_of_lines}
 use Rattle.report_text.specs.Report.{unit_lines}
 use Rattle.report_text.proofs.rows.put_rows.Given as goal
