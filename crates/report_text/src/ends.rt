@@ -29,8 +29,8 @@ const REPLIES: [Reply; 7] = [
     Reply::Forgotten,
 ];
 
-/// How many seals a history has.
-pub fn count_seals(history: &[Entry]) -> usize
+// How many seals a history has.
+fn count_seals(history: &[Entry]) -> usize
     ensures { result ≡ seals history.now }
 {
     history

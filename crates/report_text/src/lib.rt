@@ -11,6 +11,6 @@ mod laws;
 mod rows;
 
 pub use blocks::put_recognised;
-pub use ends::{count_seals, put_last_lines};
+pub use ends::put_last_lines;
 pub use entries::put_feeds;
 pub use laws::made_history_is_legal;

@@ -10,5 +10,6 @@ pub mod OneDescription
 pub mod PlainScripts
 pub mod Refusals
 pub mod Running
+pub mod ScriptLogs
 pub mod Streams
 pub mod Told

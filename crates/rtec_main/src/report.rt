@@ -10,9 +10,10 @@ ghost use Rattle.report_text.specs.Printed.{feed_lines, block_of, end_of};
 ghost use Rattle.rtec_main.specs.Programs.{IsDeclared};
 ghost use Rattle.rtec_main.specs.Recognised.{IsPlainHistory, IsPlainScript};
 ghost use Rattle.rtec_main.specs.Script.{commands_of};
+ghost use Rattle.stream_read.specs.Scripts.{AreOfProgram};
 
+use crate::admitted::admitted;
 use crate::recognise::recognise;
-use crate::replies::history;
 use ground_types::{Entry, Program};
 use report_text::{put_feeds, put_last_lines, put_recognised};
 use rt_base::OutOfMemory;
@@ -48,11 +49,12 @@ pub fn report(alloc: Global, program: &Program, script: &Script) -> Result<Vec<u
     requires program { IsDeclared program.now }
     requires domains { list_all is_sound_domain program.now.domains ≡ true }
     requires commands { IsPlainScript (commands_of script.now.commands) }
+    requires of_program { AreOfProgram program.now script.now.commands }
     ensures { IfOk result (λ text. text.items ≡ report_text program.now
         (commands_of script.now.commands) script.now.ignored) }
 {
-    let history = history(alloc, &program.plan, script.commands.as_slice())?;
+    let log = admitted(alloc, program, script.commands.as_slice())?;
     let mut text = Vec::new(alloc);
-    put_report(alloc, &mut text, program, &history, script.ignored)?;
+    put_report(alloc, &mut text, program, log.history(), script.ignored)?;
     Ok(text)
 }

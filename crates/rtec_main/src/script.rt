@@ -5,6 +5,7 @@ ghost use Rattle.ground_types.specs.Sound.{IsSound};
 ghost use Rattle.rtec_main.specs.Script.{commands_of, is_add, is_seal, is_plain, IsScriptOf};
 ghost use Rattle.rtec_main.specs.Recognised.{IsPlainScript};
 ghost use Rattle.rtec_main.specs.Reads.{IsScriptRefused, IsWhyNoScript};
+ghost use Rattle.stream_read.specs.Scripts.{AreOfProgram};
 
 use crate::reads::{Unread, read_all};
 use ground_types::{Act, Command, Program};
@@ -128,6 +129,7 @@ fn script(alloc: Global, program: &Program, text: &[u8]) -> Result<Script, Scrip
     requires program { IsSound program.now }
     requires few { length text.now ≤ 67108864 }
     ensures plain { IfOk result (λ script. IsPlainScript (commands_of script.commands)) }
+    ensures of_program { IfOk result (λ script. AreOfProgram program.now script.commands) }
     ensures ok { IfOk result (IsScriptOf program.now text.now) }
     ensures err { IfErr result (IsScriptRefused program.now text.now) }
 {
@@ -147,6 +149,7 @@ pub fn read_script<I: Inputs>(
 ) -> Result<Script, ScriptRefused>
     requires program { IsSound program.now }
     ensures plain { IfOk result (λ script. IsPlainScript (commands_of script.commands)) }
+    ensures of_program { IfOk result (λ script. AreOfProgram program.now script.commands) }
     ensures ok { IfOk result (λ script. IfSome (I.bytes inputs.old name.now)
         (λ text. IsScriptOf program.now text script)) }
     ensures err { IfErr result (IsWhyNoScript (I.bytes inputs.old name.now)

@@ -13,14 +13,15 @@ pub returns : goal.returns
 returns c =
     let program = c.args.program.now in
     let commands : List Command = commands_of c.args.script.now.commands in
-    let made : c.in_ok-history.history.items ≡ history_of program.plan commands =
-    c.in_ok-history.ensures.exact ∙ ap (λ (p : List Placed). history_of program.plan
-    (commands_of p)) c.as_slice.ensures in
+    let logged : c.in_ok-log.log.history ≡ history_of program.plan commands =
+    c.in_ok-log.ensures.exact
+    ∙ ap (λ (p : List Placed). history_of program.plan (commands_of p)) c.as_slice.ensures in
+    let made : c.history.result.now ≡ history_of program.plan commands =
+    c.history.ensures.list ∙ logged in
     rw (
       c.in_ok-put_report.ensures,
       c.new-text.ensures.items,
-      c.deref.ensures.value,
       made,
     ) (report_joins program commands (publication program (history_of program.plan commands) 0).rows
     (evaluations program (history_of program.plan commands) 0) c.args.script.now.ignored
-    (subst IsPlainHistory made c.in_ok-history.ensures.plain) refl refl)
+    (subst IsPlainHistory logged c.in_ok-log.ensures.plain) refl refl)
