@@ -10,7 +10,7 @@ use std::thread::Threads;
 
 /// How a crew goes about its numbers. A further way to work is a further variant.
 #[derive(Clone, Copy, Debug, PartialEq, Eq)]
-pub enum Plan {
+pub enum Way {
     /// One after the other, in the thread of the caller.
     OneByOne,
 }
@@ -19,10 +19,10 @@ pub enum Plan {
 /// our own.
 pub trait Crew: Sync {
     /// How the numbers are worked.
-    fn plan(&self) -> Plan;
+    fn plan(&self) -> Way;
 
     /// What is done before a number is worked, by the thread that works it: nothing, unless a crew
-    /// says otherwise. It changes no answer and counts no step.
+    /// says otherwise. Whatever it does, `all` keeps its promise.
     fn before_work(&self, _number: u32) {}
 
     /// Has the numbers below `n` worked, all of which may be: the answer has `n` items, each an
@@ -45,7 +45,7 @@ pub trait Crew: Sync {
         ensures out { steps.new.out ≡ steps.old.out }
     {
         match self.plan() {
-            Plan::OneByOne => in_turn(self, alloc, n, piece, steps),
+            Way::OneByOne => in_turn(self, alloc, n, piece, steps),
         }
     }
 }
@@ -55,8 +55,8 @@ pub trait Crew: Sync {
 pub struct OneByOne;
 
 impl Crew for OneByOne {
-    fn plan(&self) -> Plan {
-        Plan::OneByOne
+    fn plan(&self) -> Way {
+        Way::OneByOne
     }
 }
 

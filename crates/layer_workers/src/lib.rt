@@ -7,7 +7,7 @@
 mod crew;
 mod piece;
 
-pub use crew::{Crew, OneByOne, Plan};
+pub use crew::{Crew, OneByOne, Way};
 pub use piece::Piece;
 
 #[cfg(test)]

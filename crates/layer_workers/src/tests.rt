@@ -2,7 +2,7 @@
 // before each. And small sums that the contracts come to.
 ghost use Rattle.std.specs.Prelude.{◌≡◌, ◌+◌, ◌*◌, ◌%◌, OnOk};
 
-use crate::{Crew, OneByOne, Piece, Plan};
+use crate::{Crew, OneByOne, Piece, Way};
 use rt_base::{OutOfMemory, Steps};
 use std::alloc::Global;
 use std::sync::atomic::{AtomicU64, Ordering};
@@ -73,8 +73,8 @@ struct Noting<'a> {
 }
 
 impl Crew for Noting<'_> {
-    fn plan(&self) -> Plan {
-        Plan::OneByOne
+    fn plan(&self) -> Way {
+        Way::OneByOne
     }
 
     fn before_work(&self, number: u32) {

@@ -12,7 +12,9 @@ use std::sync::Arc;
 /// What is published of a query: the rows of all units over its window, and the program, opening
 /// values and events that they come from. By its type it is right for itself (our own): its number
 /// is one of the plan's queries, and its rows are the maximal runs and the event points of what its
-/// events and its opening values make true, point by point, in the window of that query.
+/// events and its opening values make true, point by point, in the window of that query. What its
+/// front and its count of evaluations are, and which events and opening values these are, is as it
+/// was handed in.
 #[derive(Drop)]
 pub struct Publication {
     number: u32,
@@ -108,7 +110,7 @@ impl Publication {
         self.number
     }
 
-    /// How many entries the history has up to and with its seal. No memory.
+    /// The front that it was made with. No memory.
     pub fn front(&self) -> u32
         ensures { result ≡ self.now.front }
     {
@@ -122,15 +124,14 @@ impl Publication {
         &self.program
     }
 
-    /// The value with which each unit opens, at the first value point of the window; None for units
-    /// that are not simple fluents, and where none holds. No memory.
+    /// The opening values that it was made with. No memory.
     pub fn opening(&self) -> &Opening
         ensures { result.now.values ≡ self.now.opening }
     {
         &self.opening
     }
 
-    /// The events that stand in its window. No memory.
+    /// The events that it was made with. No memory.
     pub fn events(&self) -> &[Occ]
         ensures { result.now ≡ self.now.events }
     {
@@ -147,8 +148,7 @@ impl Publication {
         &self.rows.as_slice()[unit as usize]
     }
 
-    /// How often a rule's body was looked at, counted by the touched points of the rules. No
-    /// memory.
+    /// The count of evaluations that it was made with. No memory.
     pub fn evaluations(&self) -> u64
         ensures { result ≡ self.now.evaluations }
     {
