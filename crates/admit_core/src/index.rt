@@ -3,7 +3,8 @@
 // entry. The walk for an event and point begins at the slot that their hash gives, goes on from
 // slot to slot, behind the last one with the first, and ends at an empty slot or at one that names
 // an entry of theirs. A later entry takes that slot, and none is emptied. With two slots for each
-// entry that there may be, at most half of them are in use, and a walk is a slot or two long.
+// entry that there may be, at most half of them are in use, and a walk is a slot or two long, as
+// long as few share one.
 ghost use Rattle.std.specs.Prelude.{◌≡◌, ◌<◌, ◌≤◌, ℕ, length, slice_index, MatchOption, false};
 ghost use Rattle.std.specs.Option.{option_copied};
 ghost use Rattle.ground_types.specs.History.{counts_for};
