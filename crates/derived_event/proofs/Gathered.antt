@@ -21,7 +21,8 @@ increasing_rest x rest up k within =
     up (k + 1) (omega arith) in
     omega (arith, at_next x rest k, at_next x rest (k + 1))
 
-rising_from : (floor : ℕ) (xs : List ℕ) → (0 < length xs → floor ≤ get_or xs 0 0)
+-- numbers that increase from a floor on
+pub rising_from : (floor : ℕ) (xs : List ℕ) → (0 < length xs → floor ≤ get_or xs 0 0)
     → IsStrictlyIncreasing xs → IsRisingFrom floor xs
 rising_from floor [] low up = tt
 rising_from floor (x ∷ rest) low up = (

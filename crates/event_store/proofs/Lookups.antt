@@ -10,7 +10,7 @@ use Rattle.ground_types.specs.Touched.{differs}
 use Rattle.span_algebra.specs.Normal.{has}
 use Rattle.event_store.specs.Standing.{Kept, Events, standing, changed, stood}
 
-turned : (a b : ℕ) → eqb a b ≡ eqb b a
+pub turned : (a b : ℕ) → eqb a b ≡ eqb b a
 turned a b = grind (arith, nat_tests)
 
 -- what is kept of an event that was never told

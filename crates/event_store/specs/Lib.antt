@@ -1,1 +1,5 @@
 pub mod Standing
+pub mod Words
+pub mod Occurring
+pub mod Turned
+pub mod Left

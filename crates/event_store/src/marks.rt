@@ -3,6 +3,7 @@ ghost use Rattle.std.specs.Prelude.{◌≡◌, ◌==◌, ◌&&◌, ◌||◌, not
 ghost use Rattle.std.specs.Prelude.{OnErr, IfOk};
 ghost use Rattle.ground_types.specs.Touched.{differs};
 ghost use Rattle.span_algebra.specs.Normal.{IsRising, has};
+ghost use Rattle.event_store.specs.Left.{has_some};
 
 use ground_types::Point;
 use rt_base::OutOfMemory;
@@ -105,16 +106,18 @@ impl Marks {
         Ok(true)
     }
 
-    // Forgets the points up to and with `w`.
-    pub(crate) fn slide(&mut self, w: Point)
-        ensures { self.new ≡ record {
+    // Forgets the points up to and with `w`, and says whether something is left.
+    pub(crate) fn slide(&mut self, w: Point) -> bool
+        ensures slid { self.new ≡ record {
           points = filter (λ t. nat_lt w t) self.old.points;
           changed =
               filter (λ t. nat_lt w t) self.old.changed;
         } }
+        ensures left { result ≡ has_some self.new }
     {
         self.points.drop_until(w);
         self.changed.drop_until(w);
+        !(self.points.as_slice().is_empty() && self.changed.as_slice().is_empty())
     }
 
     // Takes what stands now for what stood.

@@ -1,8 +1,9 @@
 // The store.
 ghost use Rattle.std.specs.Prelude.{◌≡◌, ◌==◌, ◌&&◌, ◌||◌, not, nat_lt, ℕ, false, [], OnOk, OnErr};
-ghost use Rattle.std.specs.Prelude.{IfOk};
+ghost use Rattle.std.specs.Prelude.{IfOk, nat_eq};
 ghost use Rattle.ground_types.specs.Touched.{differs};
 ghost use Rattle.span_algebra.specs.Normal.{has};
+ghost use Rattle.indexmap.specs.IndexMap.{IsUnique};
 ghost use Rattle.event_store.specs.Standing.{standing, stood};
 
 use crate::marks::Marks;
@@ -18,8 +19,8 @@ use std::marker::Model;
 /// changed, in the order in which they were first told.
 #[derive(Drop)]
 pub struct EventStore {
-    alloc: Global,
-    by_event: IndexMap<EventId, Marks>,
+    pub(crate) alloc: Global,
+    pub(crate) by_event: IndexMap<EventId, Marks>,
     // What an event has that was never told.
     none: Points,
 }
@@ -33,6 +34,13 @@ impl Model for EventStore {
     ghost view = { λ store. store.by_event.entries };
 
     ghost invariant = { λ store. store.none ≡ [] };
+}
+
+// No event is there twice.
+fn is_unique(by_event: &IndexMap<EventId, Marks>)
+    ensures { IsUnique nat_eq by_event.now }
+{
+    by_event.len();
 }
 
 impl EventStore {
@@ -83,16 +91,17 @@ impl EventStore {
     }
 
     /// Forgets every point up to and with `w`, a whole point of time: at none of them does an event
-    /// stand, and at none did one. One walk over all points that are kept; it takes no memory.
+    /// stand, and at none did one. An event of which no point is left is forgotten too, so what is
+    /// kept is never more than what stands in the window or has changed of it. One walk over the
+    /// events, with a search by halves in the points of each, of which those that stay move in one
+    /// piece; it takes no memory.
     pub fn slide(&mut self, w: Point)
         ensures standing { (e t : ℕ) → has (standing self.new e) t
             ≡ (nat_lt w t && has (standing self.old e) t) }
         ensures settled { (e t : ℕ) → stood self.new e t ≡ (nat_lt w t && stood self.old e t) }
     {
-        self.by_event.retain(|_, kept| {
-            kept.slide(w);
-            true
-        });
+        is_unique(&self.by_event);
+        self.by_event.retain(|_, kept| kept.slide(w));
     }
 
     /// Takes what stands now for what stood: nothing has changed since. One walk over the events;

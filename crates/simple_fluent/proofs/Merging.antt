@@ -131,11 +131,6 @@ earlier_by a ar b br top false is one two =
       found = rw (no, eqb_same b.at) refl;
     }
 
-option_cond : {X : Type 0} (c : Bool) (a b x : X) → cond c (Some a) (Some b) ≡ Some x
-    → cond c a b ≡ x
-option_cond true a b x is = cc
-option_cond false a b x is = cc
-
 pub earlier_is : (one two : List First) (top : ℕ) (x : First) → RisesFrom top one
     → RisesFrom top two → earlier (first_of one) (first_of two) ≡ Some x →
     IsEarlier one two top x
@@ -159,19 +154,22 @@ earlier_is (a ∷ ar) [] top x one two is =
       found = rw (eqb_same a.at) refl;
     })
 earlier_is (a ∷ ar) (b ∷ br) top x one two is =
-    let same : cond (leb a.at b.at) a b ≡ x = option_cond (leb a.at b.at) a b x is in
-    rw (← same) (earlier_by a ar b br top (leb a.at b.at) refl one two)
-
-no_cond : {X : Type 0} (c : Bool) (a b : X) → cond c (Some a) (Some b) ≡ None → ⊥
-no_cond true a b is = cc
-no_cond false a b is = cc
+    rw (← which (leb a.at b.at) is) (earlier_by a ar b br top (leb a.at b.at) refl one two)
+  where
+    which : (c : Bool) → cond c (Some a) (Some b) ≡ Some x → cond c a b ≡ x
+    which true there = cc
+    which false there = cc
 
 pub none_earlier : (one two : List First) → earlier (first_of one) (first_of two) ≡ None
     → (one ≡ []) × (two ≡ [])
 none_earlier [] [] is = (refl, refl)
 none_earlier [] (b ∷ br) is = cc
 none_earlier (a ∷ ar) [] is = cc
-none_earlier (a ∷ ar) (b ∷ br) is = absurd (no_cond (leb a.at b.at) a b is)
+none_earlier (a ∷ ar) (b ∷ br) is = absurd (some (leb a.at b.at) is)
+  where
+    some : (c : Bool) → cond c (Some a) (Some b) ≡ None → ⊥
+    some true none = cc
+    some false none = cc
 
 -- all that the merging knows
 pub record IsMerging (one two one_left two_left out : List First) (top : ℕ) : Type 0 where
@@ -220,14 +218,6 @@ merging_more one two one_left two_left out top x m is =
           ∙ m.same t);
     }
 
-by_count : (m n l k x y : ℕ) → m + x ≡ l → n + y ≡ k → 1 ≤ x + y → m + n < l + k
-by_count m n l k x y a b c = omega arith
-
-some_passed : (a b : Bool) → (a || b) ≡ true → 1 ≤ cond a 1 0 + cond b 1 0
-some_passed true b is = omega arith
-some_passed false true is = omega arith
-some_passed false false is = cc
-
 pub merging_fewer : (one two one_left two_left out : List First) (top : ℕ) (x : First)
     → IsMerging one two one_left two_left out top →
     earlier (first_of one_left) (first_of two_left) ≡ Some x →
@@ -236,8 +226,17 @@ pub merging_fewer : (one two one_left two_left out : List First) (top : ℕ) (x 
 merging_fewer one two one_left two_left out top x m is =
     let e : IsEarlier one_left two_left top x = earlier_is one_left two_left top x m.ones m.twos is
     in
-    by_count _ _ _ _ _ _ (past one_left x.at e.ones).fewer (past two_left x.at e.twos).fewer
-    (some_passed _ _ e.found)
+    omega (
+      arith,
+      (past one_left x.at e.ones).fewer,
+      (past two_left x.at e.twos).fewer,
+      one_passed (starts_at one_left x.at) (starts_at two_left x.at) e.found,
+    )
+  where
+    one_passed : (a b : Bool) → (a || b) ≡ true → 1 ≤ cond a 1 0 + cond b 1 0
+    one_passed true b found = omega arith
+    one_passed false true found = omega arith
+    one_passed false false found = cc
 
 pub merging_end : (one two one_left two_left out : List First) (top : ℕ)
     → IsMerging one two one_left two_left out top →

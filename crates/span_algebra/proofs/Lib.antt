@@ -10,3 +10,4 @@ pub mod Sums
 pub mod Walking
 pub mod Counting
 pub mod Cutting
+pub mod Merging

@@ -94,3 +94,33 @@ part_is xs w q begin end begins ends first second =
     (λ k d within. ap test (get_or-drop end rest k d)
     ∙ too_high (get_or rest (end + k) d) w q (second.1 (end + k) d (omega arith)
     (omega (arith, length-drop end rest)))))
+
+not_above : (t w : ℕ) → leb t w ≡ true → ltb w t ≡ false
+not_above t w is = grind (arith, nat_tests)
+
+is_above : (t w : ℕ) → leb t w ≡ false → ltb w t ≡ true
+is_above t w is = grind (arith, nat_tests)
+
+-- from the first place above w on there are the points above w
+pub from_there : (xs : List ℕ) (w count : ℕ) → count ≤ length xs →
+    IsPartitionPoint (λ t. leb t w ≡ true) (λ t. leb t w ≡ false) xs count →
+    drop count xs ≡ filter (λ t. ltb w t) xs
+from_there xs w count within parted =
+    let test : ℕ → Bool = λ t. ltb w t in
+    sym (filter_from test xs count
+    (λ k d inside. let low : k < count = omega (arith, length-take count xs) in
+    ap test (get_or-take count xs k d low)
+    ∙ not_above (get_or xs k d) w (parted.0 k d (omega arith) low))
+    ∙ filter_all test (drop count xs)
+    (λ k d inside. ap test (get_or-drop count xs k d)
+    ∙ is_above (get_or xs (count + k) d) w (parted.1 (count + k) d (omega arith)
+    (omega (arith, length-drop count xs)))))
+
+-- the same in lists that are the same
+pub from_there_on : (searched within now : List ℕ) (w count : ℕ) → searched ≡ within
+    → within ≡ now → count ≤ length searched
+    → IsPartitionPoint (λ t. leb t w ≡ true) (λ t. leb t w ≡ false) searched count
+    → drop count within ≡ filter (λ t. ltb w t) now
+from_there_on searched within now w count same is le parted =
+    ap (drop count) (sym same) ∙ from_there searched w count le parted
+    ∙ ap (filter (λ t. ltb w t)) (same ∙ is)

@@ -14,6 +14,7 @@ mod points;
 mod refused;
 mod rows;
 mod spans;
+mod symmetric;
 mod walk;
 
 pub use constructs::{
@@ -27,6 +28,7 @@ pub use refused::ListRefused;
 pub use rows::UnitRows;
 pub use rt_base::Point;
 pub use spans::{Span, Spans};
+pub use symmetric::symmetric_difference;
 
 #[cfg(test)]
 mod tests;
