@@ -1,4 +1,5 @@
 pub mod Rows
+pub mod Shapes
 pub mod Cached
 pub mod Told
 pub mod Examples

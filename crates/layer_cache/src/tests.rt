@@ -1,6 +1,8 @@
-// What no clause says: that a cache is made with ample memory, what a unit has as it was put, and
-// the values with which windows open.
-ghost use Rattle.std.specs.Prelude.{◌≡◌, length, IfOk, OnOk};
+// What no clause says: that a cache is made and copied with ample memory, what a unit has as it was
+// put, and the values with which windows open.
+ghost use Rattle.std.specs.Prelude.{◌≡◌, ◌∷◌, [], Some, None, length, IfOk, OnOk};
+ghost use Rattle.layer_cache.specs.Cached.{unit_shapes};
+ghost use Rattle.layer_cache.specs.Shapes.{shape, shapes};
 
 use crate::{Cache, value_row};
 use ground_types::{Name, NameKind, Plan, Point, Program, Unit, UnitKind};
@@ -10,7 +12,9 @@ use std::alloc::Global;
 use std::test::Fail;
 
 // A name of some values; a derived event has none.
-fn name(alloc: Global, word: &str, kind: NameKind, values: &[&str]) -> Result<Name, Fail> {
+fn name(alloc: Global, word: &str, kind: NameKind, values: &[&str]) -> Result<Name, Fail>
+    ensures { IfOk result (λ name. length name.values ≡ length values.now) }
+{
     let mut words = Vec::new(alloc);
     for value in values {
         words.push(Word::new(alloc, value)?)?;
@@ -26,7 +30,10 @@ fn name(alloc: Global, word: &str, kind: NameKind, values: &[&str]) -> Result<Na
 }
 
 // A unit without rules.
-fn unit(alloc: Global, name: u32, kind: UnitKind) -> Unit {
+fn unit(alloc: Global, name: u32, kind: UnitKind) -> Unit
+    ensures named { result.name ≡ name }
+    ensures kind { result.kind ≡ kind }
+{
     Unit {
         name,
         args: List::of(Vec::new(alloc)),
@@ -36,7 +43,7 @@ fn unit(alloc: Global, name: u32, kind: UnitKind) -> Unit {
 
 // The gear, a fluent of the values low and high, and the alarm, a derived event.
 fn program(alloc: Global) -> Result<Program, Fail>
-    ensures { IfOk result (λ program. length program.units ≡ 2) }
+    ensures { IfOk result (λ program. unit_shapes program ≡ Some 2 ∷ None ∷ []) }
 {
     let gear = name(alloc, "gear", NameKind::Simple, &["low", "high"])?;
     let alarm = name(alloc, "alarm", NameKind::Derived, &[])?;
@@ -68,11 +75,15 @@ enum Call {
     Gear(Span, Span),
     // Puts a point of the derived event.
     Alarm(Point),
+    // Empties the rows of the gear.
+    Empty,
     Turn,
 }
 
 // Rows of one span each.
-fn rows(alloc: Global, low: Span, high: Span) -> Result<UnitRows, Fail> {
+fn rows(alloc: Global, low: Span, high: Span) -> Result<UnitRows, Fail>
+    ensures { IfOk result (λ rows. shape rows ≡ Some 2) }
+{
     let low = Spans::from_list(alloc, &[low])?;
     let high = Spans::from_list(alloc, &[high])?;
     Ok(UnitRows::Fluent(List::of(vec![in alloc; low, high]?)))
@@ -80,14 +91,15 @@ fn rows(alloc: Global, low: Span, high: Span) -> Result<UnitRows, Fail> {
 
 // Makes a call.
 fn make(alloc: Global, cache: &mut Cache, call: Call) -> Result<(), Fail>
-    requires rows { length cache.old.rows ≡ 2 }
+    requires rows { shapes cache.old.rows ≡ Some 2 ∷ None ∷ [] }
     requires before { length cache.old.before ≡ 2 }
-    ensures rows { OnOk result (length cache.new.rows ≡ 2) }
+    ensures rows { OnOk result (shapes cache.new.rows ≡ Some 2 ∷ None ∷ []) }
     ensures before { OnOk result (length cache.new.before ≡ 2) }
 {
     match call {
         Call::Gear(low, high) => cache.put_row(0, rows(alloc, low, high)?),
         Call::Alarm(at) => cache.put_row(1, UnitRows::Event(Points::from_list(alloc, &[at])?)),
+        Call::Empty => cache.empty_row(0),
         Call::Turn => cache.turn(),
     }
     Ok(())
@@ -95,7 +107,7 @@ fn make(alloc: Global, cache: &mut Cache, call: Call) -> Result<(), Fail>
 
 // The rows of the program after some calls.
 fn after(alloc: Global, calls: &[Call]) -> Result<Cache, Fail>
-    ensures rows { IfOk result (λ cache. length cache.rows ≡ 2) }
+    ensures rows { IfOk result (λ cache. shapes cache.rows ≡ Some 2 ∷ None ∷ []) }
     ensures before { IfOk result (λ cache. length cache.before ≡ 2) }
 {
     let program = program(alloc)?;
@@ -111,13 +123,15 @@ fn first_row(rows: &UnitRows) -> Option<&[Span]> {
     value_row(rows, 0).map(Spans::as_slice)
 }
 
-// The first row of the gear, now and before, and that of the alarm, after some calls.
+// The first row of the gear, now and before, that of the alarm, and whether the gear's rows are
+// empty, after some calls.
 fn shown(alloc: Global, calls: &[Call]) -> Result<String, Fail> {
     let cache = after(alloc, calls)?;
     let now = first_row(cache.row(0));
     let before = first_row(cache.old_row(0));
     let alarm = first_row(cache.row(1));
-    Ok(format!(in alloc; "{now:?} {before:?} {alarm:?}")?)
+    let empty = cache.is_empty_row(0);
+    Ok(format!(in alloc; "{now:?} {before:?} {alarm:?} {empty}")?)
 }
 
 // Where the two values hold.
@@ -129,21 +143,27 @@ const HIGH: Span = Span {
 };
 
 // What is shown where low holds now, and where it did before the last turn.
-const LOW_ALONE: &str = "Some([Span { after: 3, until: 7 }]) Some([]) None";
+const NONE: &str = "Some([]) Some([]) None true";
 
-const LOW_BEFORE: &str = "Some([]) Some([Span { after: 3, until: 7 }]) None";
+const LOW_ALONE: &str = "Some([Span { after: 3, until: 7 }]) Some([]) None false";
+
+const LOW_BEFORE: &str = "Some([]) Some([Span { after: 3, until: 7 }]) None true";
 
 #[test]
 fn a_unit_has_the_rows_that_were_put_last(rt: HostRuntime) -> Result<(), Fail> {
-    use Call::{Alarm, Gear, Turn};
+    use Call::{Alarm, Empty, Gear, Turn};
     let table = [
-        ([].as_slice(), "Some([]) Some([]) None"),
+        ([].as_slice(), NONE),
         (&[Gear(LOW, HIGH)], LOW_ALONE),
         (&[Gear(HIGH, LOW), Gear(LOW, HIGH)], LOW_ALONE),
         (&[Gear(LOW, HIGH), Alarm(4)], LOW_ALONE),
         // A turn gives the rows before.
         (&[Gear(LOW, HIGH), Turn], LOW_BEFORE),
         (&[Gear(LOW, HIGH), Turn, Turn], LOW_ALONE),
+        // Rows are emptied as they are now, and may be put again.
+        (&[Gear(LOW, HIGH), Empty], NONE),
+        (&[Gear(LOW, HIGH), Turn, Empty], LOW_BEFORE),
+        (&[Gear(LOW, HIGH), Empty, Gear(LOW, HIGH)], LOW_ALONE),
     ];
     for (calls, wanted) in table {
         let found = shown(rt.alloc(), calls)?;
@@ -154,9 +174,12 @@ fn a_unit_has_the_rows_that_were_put_last(rt: HostRuntime) -> Result<(), Fail> {
 
 #[test]
 fn a_cache_gives_the_rows_of_all_units(rt: HostRuntime) -> Result<(), Fail> {
-    let rows = after(rt.alloc(), &[Call::Gear(LOW, HIGH), Call::Alarm(4)])?.into_rows();
-    let first = rows.as_slice().first().and_then(first_row);
-    assert_eq!(rt; (rows.as_slice().len(), first), (2, Some([LOW].as_slice())));
+    let cache = after(rt.alloc(), &[Call::Gear(LOW, HIGH), Call::Alarm(4)])?;
+    let copies = cache.copy_rows()?;
+    for rows in [copies, cache.into_rows()] {
+        let first = rows.as_slice().first().and_then(first_row);
+        assert_eq!(rt; (rows.as_slice().len(), first), (2, Some([LOW].as_slice())));
+    }
     Ok(())
 }
 

@@ -13,7 +13,7 @@ mod touch;
 
 pub use eval::eval_at;
 pub use revise::revise_rule;
-pub use touch::touched;
+pub use touch::{touched, triggered};
 
 #[cfg(test)]
 mod tests;

@@ -1,38 +1,71 @@
 // What no clause says: that calls succeed with ample memory, and the points of worked rows and
 // events.
-ghost use Rattle.std.specs.Prelude.{◌≡◌, ◌<◌, ◌-◌, ◌^◌, nat_lt, true, length, IfOk};
+ghost use Rattle.std.specs.Prelude.{◌≡◌, ◌∷◌, ◌<◌, ◌-◌, ◌^◌, nat_lt, [], Some, None, true, length};
+ghost use Rattle.std.specs.Prelude.{ℕ, IfOk};
 ghost use Rattle.std.specs.List.{list_all};
 ghost use Rattle.ground_types.specs.Meaning.{units_of_rule};
+ghost use Rattle.layer_cache.specs.Cached.{shape_by};
+ghost use Rattle.layer_cache.specs.Shapes.{shape, shapes};
 ghost use Rattle.point_rule.specs.Known.{HasRows};
 
 use crate::{eval_at, revise_rule, touched};
 use event_store::EventStore;
-use ground_types::{Cond, Plan, Point, Program, Rule, Trigger, Unit, UnitKind, What};
+use ground_types::{
+    Cond, Name, NameKind, Plan, Point, Program, Rule, Trigger, Unit, UnitKind, What,
+};
 use layer_cache::Cache;
-use rt_base::{List, Steps};
+use rt_base::{List, Steps, Word};
 use span_algebra::{Points, Span, Spans, UnitRows};
 use std::alloc::Global;
 use std::test::Fail;
 
-// The unit of a fluent without rules.
-fn fluent(alloc: Global, name: u32) -> Unit {
-    Unit {
-        name,
+// The fluent heat, of one value.
+fn heat(alloc: Global) -> Result<Name, Fail>
+    ensures { IfOk result (λ name. length name.values ≡ 1) }
+{
+    let value = Word::new(alloc, "true")?;
+    Ok(Name {
+        word: Word::new(alloc, "heat")?,
+        kind: NameKind::Simple,
         args: List::of(Vec::new(alloc)),
-        kind: UnitKind::Simple {
-            initially: None,
-            initiate: List::of(Vec::new(alloc)),
-            terminate: List::of(Vec::new(alloc)),
-        },
+        values: List::of(vec![in alloc; value]?),
+        first: 0,
+        line: 1,
+    })
+}
+
+// A fluent without rules.
+fn simple(alloc: Global) -> UnitKind
+    ensures { (values : ℕ) → shape_by result values ≡ Some values }
+{
+    UnitKind::Simple {
+        initially: None,
+        initiate: List::of(Vec::new(alloc)),
+        terminate: List::of(Vec::new(alloc)),
     }
 }
 
-// Empty rows for three units. Without names these have no values, and no value has a row yet.
+// A unit of a kind, and of the one name.
+fn unit(alloc: Global, kind: UnitKind) -> Unit
+    ensures named { result.name ≡ 0 }
+    ensures kind { result.kind ≡ kind }
+{
+    Unit {
+        name: 0,
+        args: List::of(Vec::new(alloc)),
+        kind,
+    }
+}
+
+// Empty rows for a fluent of one value, a derived event and another such fluent.
 fn empty(alloc: Global) -> Result<Cache, Fail>
     ensures rows { IfOk result (λ cache. length cache.rows ≡ 3) }
     ensures old_rows { IfOk result (λ cache. length cache.before ≡ 3) }
+    ensures shapes { IfOk result (λ cache. shapes cache.rows ≡ Some 1 ∷ None ∷ Some 1 ∷ []) }
 {
-    let units = vec![in alloc; fluent(alloc, 0), fluent(alloc, 1), fluent(alloc, 2)]?;
+    let first = unit(alloc, simple(alloc));
+    let alarm = unit(alloc, UnitKind::Derived(List::of(Vec::new(alloc))));
+    let second = unit(alloc, simple(alloc));
     let program = Program {
         plan: Plan {
             window: 10,
@@ -41,8 +74,8 @@ fn empty(alloc: Global) -> Result<Cache, Fail>
             queries: 2,
         },
         domains: List::of(Vec::new(alloc)),
-        names: List::of(Vec::new(alloc)),
-        units: List::of(units),
+        names: List::of(vec![in alloc; heat(alloc)?]?),
+        units: List::of(vec![in alloc; first, alarm, second]?),
         layers: List::of(Vec::new(alloc)),
         events: 2,
     };
@@ -55,7 +88,9 @@ fn span(after: Point, until: Point) -> Span {
 }
 
 // The rows of a fluent of one value.
-fn row(alloc: Global, spans: &[Span]) -> Result<UnitRows, Fail> {
+fn row(alloc: Global, spans: &[Span]) -> Result<UnitRows, Fail>
+    ensures { IfOk result (λ rows. shape rows ≡ Some 1) }
+{
     let row = Spans::from_list(alloc, spans)?;
     Ok(UnitRows::Fluent(List::of(vec![in alloc; row]?)))
 }

@@ -27,9 +27,10 @@ fn inside(alloc: Global, list: &Points, w: Point, q: Point) -> Result<Points, Ou
     Ok(Points::of(alloc, found))
 }
 
-// The points of the window at which a rule's trigger occurs. Two searches by halves and a copy, or
-// one pass over a fluent's spans.
-pub(crate) fn triggered(
+/// The points of the window `(w, q]` at which a rule's trigger occurs, in order. The units that the
+/// rule names have to have rows in the cache. Two searches by halves and a copy, or one pass over a
+/// fluent's spans; no memory where there is no such point. The one error is want of memory.
+pub fn triggered(
     alloc: Global,
     rule: &Rule,
     cache: &Cache,

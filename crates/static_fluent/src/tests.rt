@@ -1,6 +1,10 @@
 // What no clause says: that rows are given with ample memory, and what they are in small windows.
-ghost use Rattle.std.specs.Prelude.{◌≡◌, ◌<◌, ℕ, true, length, IfOk};
+ghost use Rattle.std.specs.Prelude.{◌≡◌, ◌∷◌, ◌<◌, ℕ, [], Some, None, true, length, IfOk};
+ghost use Rattle.std.specs.Prelude.{slice_get};
 ghost use Rattle.std.specs.List.{list_all};
+ghost use Rattle.ground_types.specs.Publication.{value_count};
+ghost use Rattle.layer_cache.specs.Cached.{shape_by};
+ghost use Rattle.layer_cache.specs.Shapes.{shape, shapes};
 ghost use Rattle.static_fluent.specs.Constructs.{has_rows, has_members};
 
 use crate::spans_of_expr;
@@ -11,15 +15,17 @@ use span_algebra::{Points, Span, Spans, UnitRows};
 use std::alloc::Global;
 use std::test::Fail;
 
-// The declaration of a fluent.
-fn name(alloc: Global, word: &str, values: &[&str]) -> Result<Name, Fail> {
+// The declaration of a fluent of some values; a derived event has none.
+fn name(alloc: Global, word: &str, kind: NameKind, values: &[&str]) -> Result<Name, Fail>
+    ensures { IfOk result (λ name. length name.values ≡ length values.now) }
+{
     let mut words = Vec::new(alloc);
     for value in values {
         words.push(Word::new(alloc, value)?)?;
     }
     Ok(Name {
         word: Word::new(alloc, word)?,
-        kind: NameKind::Simple,
+        kind,
         args: List::of(Vec::new(alloc)),
         values: List::of(words),
         first: 0,
@@ -27,37 +33,48 @@ fn name(alloc: Global, word: &str, values: &[&str]) -> Result<Name, Fail> {
     })
 }
 
-// The declarations of some fluents.
-fn names(alloc: Global, declared: &[(&str, &[&str])]) -> Result<Vec<Name>, Fail> {
-    let mut names = Vec::new(alloc);
-    for (word, values) in declared {
-        names.push(name(alloc, word, values)?)?;
-    }
-    Ok(names)
+// The fluents gear, of the values low and high, and heat, and the derived event alarm.
+fn names(alloc: Global) -> Result<Vec<Name>, Fail>
+    ensures gear { IfOk result (λ names. value_count (slice_get names.items 0) ≡ 2) }
+    ensures heat { IfOk result (λ names. value_count (slice_get names.items 1) ≡ 1) }
+{
+    let gear = name(alloc, "gear", NameKind::Simple, &["low", "high"])?;
+    let heat = name(alloc, "heat", NameKind::Simple, &["true"])?;
+    let alarm = name(alloc, "alarm", NameKind::Derived, &[])?;
+    Ok(vec![in alloc; gear, heat, alarm]?)
 }
 
 // A fluent without rules.
-fn unit(alloc: Global, name: u32) -> Unit {
-    Unit {
-        name,
-        args: List::of(Vec::new(alloc)),
-        kind: UnitKind::Simple {
-            initially: None,
-            initiate: List::of(Vec::new(alloc)),
-            terminate: List::of(Vec::new(alloc)),
-        },
+fn simple(alloc: Global) -> UnitKind
+    ensures { (values : ℕ) → shape_by result values ≡ Some values }
+{
+    UnitKind::Simple {
+        initially: None,
+        initiate: List::of(Vec::new(alloc)),
+        terminate: List::of(Vec::new(alloc)),
     }
 }
 
-// Empty rows for the fluents gear, of the values low and high, heat and alarm.
-fn empty(alloc: Global) -> Result<Cache, Fail>
-    ensures { IfOk result (λ cache. length cache.rows ≡ 3) }
+// A unit of a kind.
+fn unit(alloc: Global, name: u32, kind: UnitKind) -> Unit
+    ensures named { result.name ≡ name }
+    ensures kind { result.kind ≡ kind }
 {
-    let declared: [(&str, &[&str]); 3] = [
-        ("gear", &["low", "high"]),
-        ("heat", &["true"]),
-        ("alarm", &["true"]),
-    ];
+    Unit {
+        name,
+        args: List::of(Vec::new(alloc)),
+        kind,
+    }
+}
+
+// Empty rows for a unit of each name.
+fn empty(alloc: Global) -> Result<Cache, Fail>
+    ensures rows { IfOk result (λ cache. length cache.rows ≡ 3) }
+    ensures shapes { IfOk result (λ cache. shapes cache.rows ≡ Some 2 ∷ Some 1 ∷ None ∷ []) }
+{
+    let gear = unit(alloc, 0, simple(alloc));
+    let heat = unit(alloc, 1, simple(alloc));
+    let alarm = unit(alloc, 2, UnitKind::Derived(List::of(Vec::new(alloc))));
     let program = Program {
         plan: Plan {
             window: 10,
@@ -66,8 +83,8 @@ fn empty(alloc: Global) -> Result<Cache, Fail>
             queries: 1,
         },
         domains: List::of(Vec::new(alloc)),
-        names: List::of(names(alloc, &declared)?),
-        units: List::of(vec![in alloc; unit(alloc, 0), unit(alloc, 1), unit(alloc, 2)]?),
+        names: List::of(names(alloc)?),
+        units: List::of(vec![in alloc; gear, heat, alarm]?),
         layers: List::of(Vec::new(alloc)),
         events: 0,
     };
@@ -75,7 +92,9 @@ fn empty(alloc: Global) -> Result<Cache, Fail>
 }
 
 // The rows of a fluent, one span for each of its values.
-fn fluent_rows(alloc: Global, spans: &[Span]) -> Result<UnitRows, Fail> {
+fn fluent_rows(alloc: Global, spans: &[Span]) -> Result<UnitRows, Fail>
+    ensures { IfOk result (λ rows. shape rows ≡ Some (length spans.now)) }
+{
     let mut rows = Vec::new(alloc);
     for span in spans {
         rows.push(Spans::from_list(alloc, &[*span])?)?;
@@ -88,7 +107,7 @@ fn span(after: Point, until: Point) -> Span {
     Span { after, until }
 }
 
-// Low from 3 to 11, high at 12 and 13, heat at 5 and 6, and an event in place of alarm.
+// Low from 3 to 11, high at 12 and 13, heat at 5 and 6, and an alarm at 5.
 fn cache(alloc: Global) -> Result<Cache, Fail>
     ensures { IfOk result (λ cache. length cache.rows ≡ 3) }
 {
