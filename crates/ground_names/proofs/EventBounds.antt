@@ -7,7 +7,6 @@ use Rattle.std.proofs.lemmas.Bool.{eqb-true}
 use Rattle.std.proofs.lemmas.List.Quantifiers.{position-Some}
 use Rattle.ground_types.specs.Sound.{IsSound, is_input, arguments_of, are_numbered}
 use Rattle.ground_types.specs.Words.{declaration}
-use Rattle.ground_types.specs.declared.program.Domain.{Domain}
 use Rattle.ground_types.specs.declared.program.Name.{Name}
 use Rattle.ground_types.specs.declared.program.Program.{Program}
 use Rattle.ground_names.specs.Found.{Asked, entities_named, number_named, event_named}

@@ -21,15 +21,25 @@ pub fn entity_count(domains: &[Domain], number: u32) -> u32
     }
 }
 
+// Puts how many entities each of the domains of these numbers has in place of what was there.
+fn put_sizes(domains: &[Domain], numbers: &[u32], into: &mut Vec<u32>) -> Result<(), OutOfMemory>
+    requires { list_all is_sound_domain domains.now ≡ true }
+    ensures { IfOk result (λ _. into.new.items ≡ domain_sizes domains.now numbers.now) }
+{
+    into.clear();
+    for number in numbers {
+        into.push(entity_count(domains, *number))?;
+    }
+    Ok(())
+}
+
 /// How many entities each of the domains of these numbers has.
 pub fn sizes_of(alloc: Global, domains: &[Domain], numbers: &[u32]) -> Result<Vec<u32>, OutOfMemory>
     requires { list_all is_sound_domain domains.now ≡ true }
     ensures { IfOk result (λ sizes. sizes.items ≡ domain_sizes domains.now numbers.now) }
 {
     let mut sizes = Vec::with_capacity(alloc, numbers.len())?;
-    for number in numbers {
-        sizes.push(entity_count(domains, *number))?;
-    }
+    put_sizes(domains, numbers, &mut sizes)?;
     Ok(sizes)
 }
 
@@ -58,6 +68,23 @@ pub fn count_arguments(domains: &[Domain], numbers: &[u32]) -> u64
     count
 }
 
+// Puts the list at a place in the order of all lists of numbers below these sizes in their place.
+fn take_apart(sizes: &mut [u32], place: u32)
+    requires inside { place < length (argument_lists sizes.old) }
+    requires few { length (argument_lists sizes.old) < 2 ^ 64 }
+    ensures { slice_get (argument_lists sizes.old) place ≡ Some sizes.new }
+{
+    // How many lists there are of the numbers that are left, and at which place of theirs the list
+    // is.
+    let mut count = count_lists(sizes);
+    let mut rest = place as u64;
+    for size in sizes.iter_mut() {
+        count /= *size as u64;
+        *size = (rest / count) as u32;
+        rest %= count;
+    }
+}
+
 /// Puts the list at a place in the order of all lists of numbers below these sizes in place of what
 /// was there.
 pub fn list_at(sizes: &[u32], place: u32, into: &mut Vec<u32>) -> Result<(), OutOfMemory>
@@ -66,15 +93,27 @@ pub fn list_at(sizes: &[u32], place: u32, into: &mut Vec<u32>) -> Result<(), Out
     ensures { IfOk result (λ _. slice_get (argument_lists sizes.now) place ≡ Some into.new.items) }
 {
     into.clear();
-    // How many lists there are of the numbers that are left, and at which place of theirs the list
-    // is.
-    let mut count = count_lists(sizes);
-    let mut rest = place as u64;
-    for size in sizes {
-        count /= *size as u64;
-        into.push((rest / count) as u32)?;
-        rest %= count;
-    }
+    into.extend_from_slice(sizes)?;
+    take_apart(into.as_mut_slice(), place);
+    Ok(())
+}
+
+// Puts the arguments at a place in the order of all arguments over the domains of these numbers in
+// place of what was there.
+pub(crate) fn arguments_at(
+    domains: &[Domain],
+    numbers: &[u32],
+    place: u32,
+    into: &mut Vec<u32>,
+) -> Result<(), OutOfMemory>
+    requires domains { list_all is_sound_domain domains.now ≡ true }
+    requires inside { place < length (argument_lists (domain_sizes domains.now numbers.now)) }
+    requires few { length (argument_lists (domain_sizes domains.now numbers.now)) < 2 ^ 64 }
+    ensures { IfOk result (λ _. slice_get (argument_lists (domain_sizes domains.now numbers.now))
+        place ≡ Some into.new.items) }
+{
+    put_sizes(domains, numbers, into)?;
+    take_apart(into.as_mut_slice(), place);
     Ok(())
 }
 

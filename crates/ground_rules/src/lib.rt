@@ -20,7 +20,7 @@ mod stated;
 mod units;
 mod variables;
 
-pub use ground_names::{Finder, event_at, value_of};
+pub use ground_names::{EventNames, Finder, value_of};
 pub use grounding::ground;
 pub use instances::Instances;
 pub use laws::grounded_is_sound;

@@ -10,7 +10,7 @@ use crate::descriptions::program_of;
 use crate::programs::PORT;
 use crate::shown::put_numbers;
 use domain_decl::{Checked, Known, check};
-use ground_names::{Finder, event_at, value_of};
+use ground_names::{EventNames, Finder, value_of};
 use ground_rules::{Instances, ground};
 use ground_types::{Name, Program};
 use rt_base::OutOfMemory;
@@ -115,8 +115,9 @@ fn event_over(
     requires grounded { Answers (Ok program.now) (plain_checked checked.now) list.now.of_name }
     requires program { IsSound program.now }
 {
+    let names = EventNames::new(alloc, program)?;
     let mut args = Vec::new(alloc);
-    match event_at(alloc, program, event, &mut args)? {
+    match names.event_at(event, &mut args)? {
         Some(name) => name_text(alloc, name, args.as_slice()),
         None => Ok(String::from_str(alloc, "none")?),
     }
