@@ -1,5 +1,6 @@
 -- What expressions need, and the rows of those of a statically determined fluent.
-use Rattle.std.proofs.Common.{◌≡◌, ℕ, suc, ◌+◌, ◌<◌, ◌≤◌, nat_lt, leb, ltb, Bool, true, false, not}
+use Rattle.std.proofs.Common.{Option, ◌≡◌, ℕ, suc, ◌+◌, ◌<◌, ◌≤◌, nat_lt, leb, ltb, Bool, true}
+use Rattle.std.proofs.Common.{false, not}
 use Rattle.std.proofs.Common.{◌&&◌, ◌==◌, List, [], ◌∷◌, ◌++◌, map, length, take, take_all, get_or}
 use Rattle.std.proofs.Common.{slice_get, Some, refl, sym, ◌∙◌, ap, ap₂, arith}
 use Rattle.std.specs.List.{list_all, range_with_len}
@@ -7,7 +8,7 @@ use Rattle.std.proofs.lemmas.Bool.Decides.{nat_tests}
 use Rattle.std.proofs.lemmas.List.{map-append, map_more}
 use Rattle.std.proofs.lemmas.Bool.{and_parts, eqb-true}
 use Rattle.ground_types.specs.Meaning.{units_of_expr, units_of_members}
-use Rattle.ground_types.specs.Publication.{fluent_rows, initial_of}
+use Rattle.ground_types.specs.Publication.{fluent_rows}
 use Rattle.ground_types.specs.Recognition.{static_of_unit, option_holds}
 use Rattle.ground_types.specs.Rows.{row, covers, IsRisingFrom, IsRowByPoints}
 use Rattle.ground_types.specs.Sound.{member_count, expr_fits, members_fit, is_union, kind_fits}
@@ -33,7 +34,7 @@ use Rattle.delay_revise.proofs.EachItem.{all_both}
 use Rattle.delay_revise.proofs.Expressions.{expr_told}
 use Rattle.delay_revise.proofs.LayerParts.{all_more}
 use Rattle.delay_revise.proofs.LookUp.{covers_pairs}
-use Rattle.delay_revise.proofs.Putting.{fluent_known}
+use Rattle.delay_revise.proofs.Naming.{fluent_known}
 
 -- ---- what fits is what is needed
 
@@ -198,16 +199,16 @@ option_row rows store exprs w q k n expr is at =
     (sym there))
 
 -- the rows of its expressions are those of a statically determined fluent
-pub static_rows_are : (rows : List UnitRows) (store : Events) (kind : UnitKind)
+pub static_rows_are : (rows : List UnitRows) (store : Events) (opening : Option ℕ) (kind : UnitKind)
     (exprs list : List Expr) (made : List (List Span)) (values w q : ℕ) →
     kind ≡ Static exprs → length exprs ≡ values → list ≡ exprs → map pairs made
     ≡ map (λ expr. row (expr_holds (told rows) expr) w q) list →
-    fluent_rows (map pairs made) ≡ rows_over (known rows store) (initial_of kind) values kind w q
-static_rows_are rows store kind exprs list made values w q is many all same =
+    fluent_rows (map pairs made) ≡ rows_over (known rows store) opening values kind w q
+static_rows_are rows store opening kind exprs list made values w q is many all same =
     let of : ℕ → List (ℕ × ℕ) = λ v. row (static_of_unit (known rows store) (Static exprs) v) w q in
     ap fluent_rows
     (same ∙ ap (map (λ expr. row (expr_holds (told rows) expr) w q)) all
     ∙ by_place (λ expr. row (expr_holds (told rows) expr) w q) of 0 exprs
     (option_row rows store exprs w q)
     ∙ ap (λ (n : ℕ). map of (range_with_len 0 n)) many)
-    ∙ ap (λ (k : UnitKind). rows_over (known rows store) (initial_of k) values k w q) (sym is)
+    ∙ ap (λ (k : UnitKind). rows_over (known rows store) opening values k w q) (sym is)

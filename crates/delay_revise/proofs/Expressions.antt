@@ -3,7 +3,6 @@ use Rattle.std.proofs.Common.{◌≡◌, ℕ, zero, suc, ◌+◌, ◌<◌, ◌�
 use Rattle.std.proofs.Common.{List, [], ◌∷◌, flat_map, slice_get, refl, ap₂}
 use Rattle.std.specs.List.{list_all}
 use Rattle.std.proofs.lemmas.Bool.{and_parts}
-use Rattle.ground_types.specs.History.{before_seal}
 use Rattle.ground_types.specs.Meaning.{units_of_expr, units_of_members}
 use Rattle.ground_types.specs.Members.{contains}
 use Rattle.ground_types.specs.Publication.{query_table}
@@ -19,10 +18,9 @@ use Rattle.event_store.specs.Standing.{Events}
 use Rattle.layer_cache.specs.Told.{told}
 use Rattle.point_rule.specs.Known.{known}
 use Rattle.span_algebra.specs.declared.rows.UnitRows.{UnitRows}
-use Rattle.delay_revise.specs.Published.{Stand}
-use Rattle.delay_revise.specs.Worked.{IsWorked}
+use Rattle.delay_revise.specs.Published.{OccurIn, HaveRowsOf}
 use Rattle.delay_revise.proofs.EachItem.{all_left, all_right}
-use Rattle.delay_revise.proofs.LookUp.{value_found, rows_worked, occurs_of}
+use Rattle.delay_revise.proofs.LookUp.{value_found, occurs_of}
 
 -- input events do not matter to expressions
 module _ (rows : List UnitRows) (store : Events) (t : ℕ) where
@@ -44,18 +42,17 @@ module _ (rows : List UnitRows) (store : Events) (t : ℕ) where
         let later = members_told rest in
         (ap₂ (λ (a b : Bool). a || b) here later.0, ap₂ (λ (a b : Bool). a && b) here later.1)
 
-module _ (program : Program) (history : List Entry) (store : Events) (below : List ℕ)
+module _ (program : Program) (history : List Entry) (k : ℕ) (store : Events) (below : List ℕ)
     (rows : List UnitRows)
-    (sound : IsSound program) (stand : Stand program store (before_seal history 0))
-    (worked : IsWorked program store below rows)
-    (t : ℕ) (above : left program.plan 0 < t) (within : t ≤ right program.plan 0 + 1) where
+    (sound : IsSound program) (events : OccurIn program history k (occurs_of store))
+    (have : HaveRowsOf program history k below rows)
+    (t : ℕ) (above : left program.plan k < t) (within : t ≤ right program.plan k + 1) where
   mutual
     expr_found : (expr : Expr) → expr_fits program expr ≡ true
         → list_all (contains below) (units_of_expr expr) ≡ true →
-        expr_holds (known rows store) expr t ≡ expr_holds (query_table program history 0) expr t
+        expr_holds (known rows store) expr t ≡ expr_holds (query_table program history k) expr t
     expr_found (Row unit v) fits done =
-        value_found program history 0 (occurs_of store) below rows sound stand
-        (rows_worked program history store below rows stand worked) unit v t fits
+        value_found program history k (occurs_of store) below rows sound events have unit v t fits
         (and_parts (contains below unit) true done).0 above within
     expr_found (Union' shape members) fits done = (members_found members fits done).0
     expr_found (Intersect' shape members) fits done =
@@ -71,9 +68,9 @@ module _ (program : Program) (history : List Entry) (store : Events) (below : Li
 
     members_found : {m : _} (members : Row_of-Expr m) → members_fit program members ≡ true
         → list_all (contains below) (units_of_members members) ≡ true →
-        (some_holds (known rows store) members t ≡ some_holds (query_table program history 0)
+        (some_holds (known rows store) members t ≡ some_holds (query_table program history k)
         members t)
-        × (each_holds (known rows store) members t ≡ each_holds (query_table program history 0)
+        × (each_holds (known rows store) members t ≡ each_holds (query_table program history k)
         members t)
     members_found end_of-Expr fits done = (refl, refl)
     members_found (more_of-Expr member rest) fits done =
@@ -89,7 +86,7 @@ module _ (program : Program) (history : List Entry) (store : Events) (below : Li
   pub option_found : (exprs : List Expr) (v : ℕ) → list_all (expr_fits program) exprs ≡ true
       → list_all (contains below) (flat_map units_of_expr exprs) ≡ true →
       option_holds (known rows store) (slice_get exprs v) t
-      ≡ option_holds (query_table program history 0) (slice_get exprs v) t
+      ≡ option_holds (query_table program history k) (slice_get exprs v) t
   option_found [] v fit done = refl
   option_found (expr ∷ rest) zero fit done =
       expr_found expr (and_parts (expr_fits program expr) (list_all (expr_fits program) rest) fit).0

@@ -29,6 +29,7 @@ steps_more f rules i rule start before after within is old new =
     new ∙ ap₂ (λ (c o : ℕ). let made : Counted = record { count = c; out = o } in made) count
     (ap (λ (c : Counted). c.out) old)
 
+-- what holds anyhow holds of an error too
 pub on_err : {T E P : Type 0} (r : Result T E) → P → OnErr r P
 on_err (Ok x) p = tt
 on_err (Err e) p = p

@@ -1,7 +1,8 @@
 -- A unit that opens with nothing, and none of whose rules has to be looked at, has no rows.
-use Rattle.std.proofs.Common.{◌≡◌, ℕ, zero, suc, ◌+◌, ◌-◌, ◌<◌, ◌≤◌, Bool, true, false, true≢false}
+use Rattle.std.proofs.Common.{subst, ◌≡◌, ℕ, zero, suc, ◌+◌, ◌-◌, ◌<◌, ◌≤◌, Bool, true, false}
+use Rattle.std.proofs.Common.{true≢false}
 use Rattle.std.proofs.Common.{cond, ◌&&◌, ◌||◌, List, [], ◌∷◌, ◌++◌, map, filter, length}
-use Rattle.std.proofs.Common.{Option, Some, None, refl, sym, ◌∙◌, ap, ap₂, arith}
+use Rattle.std.proofs.Common.{Option, None, refl, sym, ◌∙◌, ap, ap₂, arith}
 use Rattle.std.specs.Prelude.{replicate}
 use Rattle.std.specs.List.{list_any, range_with_len}
 use Rattle.std.proofs.lemmas.List.Sums.{sum_by-cons, sum_by-append}
@@ -11,7 +12,7 @@ use Rattle.ground_types.specs.Members.{contains}
 use Rattle.ground_types.specs.Inertia.{next_value, value_after}
 use Rattle.ground_types.specs.Recognition.{values_of, value_of_unit}
 use Rattle.ground_types.specs.Rows.{runs, row, points}
-use Rattle.ground_types.specs.Publication.{fluent_rows, event_row, initial_of}
+use Rattle.ground_types.specs.Publication.{fluent_rows, event_row}
 use Rattle.ground_types.proofs.Points.{points_are}
 use Rattle.ground_types.specs.declared.program.Rule.{Rule}
 use Rattle.ground_types.specs.declared.program.UnitKind.{UnitKind}
@@ -19,7 +20,11 @@ use Rattle.ground_types.specs.declared.program.UnitKind.TheVariants as unit_kind
 use Rattle.simple_fluent.specs.Rows.{pairs}
 use Rattle.layer_cache.specs.Cached.{empty_by}
 use Rattle.query_ask.specs.Right.{published}
-use Rattle.delay_revise.specs.Working.{is_static, rows_over, evaluations_of, evaluations_over}
+use Rattle.ground_types.specs.Touched.{rules_of}
+use Rattle.event_store.specs.Standing.{Events}
+use Rattle.layer_cache.specs.Rows.{Cached}
+use Rattle.point_rule.specs.Known.{known, is_open}
+use Rattle.delay_revise.specs.Working.{is_static, rows_over, triggers_of, touched_of, open_points}
 use Rattle.delay_revise.proofs.Alike.{row_alike, points_alike}
 use Rattle.delay_revise.proofs.Occurs.{inside_is}
 
@@ -49,11 +54,11 @@ idle_more : (table : Table) (rule : Rule) (rest : List Rule) (t : ℕ) (b : Bool
 idle_more table rule rest t true is others = absurd (true≢false is)
 idle_more table rule rest t false is others = others
 
-are_idle : (table : Table) (rules : List Rule) (w q : ℕ) → evaluations_of table rules w q ≡ 0
+are_idle : (table : Table) (rules : List Rule) (w q : ℕ) → triggers_of table rules w q ≡ 0
     → AreIdle table rules w q
 are_idle table [] w q none t low high = (refl, refl)
 are_idle table (rule ∷ rest) w q none t low high =
-    let both : length (points (happens table rule.trigger) w q) + evaluations_of table rest w q
+    let both : length (points (happens table rule.trigger) w q) + triggers_of table rest w q
     ≡ 0 =
     sym (sum_by-cons (λ rule. length (points (happens table rule.trigger) w q)) rule rest) ∙ none in
     let out : happens table rule.trigger t ≡ false = nowhere (happens table rule.trigger) w q t
@@ -99,28 +104,71 @@ simple_idle table count initiate terminate w q idle v =
     ∙ no_runs w (q + 1 - w)
 
 fluent_idle : (table : Table) (count : ℕ) (initially : Option ℕ) (initiate terminate : List Rule)
-    (w q : ℕ) → initially ≡ None →
-    evaluations_of table (initiate ++ terminate) w q ≡ 0 →
+    (w q : ℕ) → triggers_of table (initiate ++ terminate) w q ≡ 0 →
     published (empty_by (unit_kind.Simple initially initiate terminate) count)
-    ≡ rows_over table initially count (unit_kind.Simple initially initiate terminate) w q
-fluent_idle table count None initiate terminate w q opens none =
-    let all : evaluations_of table initiate w q + evaluations_of table terminate w q ≡ 0 =
+    ≡ rows_over table None count (unit_kind.Simple initially initiate terminate) w q
+fluent_idle table count initially initiate terminate w q none =
+    let all : triggers_of table initiate w q + triggers_of table terminate w q ≡ 0 =
     sym (sum_by-append (λ rule. length (points (happens table rule.trigger) w q)) initiate
     terminate) ∙ none in
     ap fluent_rows (empty_rows_are _ 0 count (simple_idle table count initiate terminate w q
     (are_idle table initiate w q (omega arith))))
-fluent_idle table count (Some v) initiate terminate w q opens none = cc
 
+-- a unit without an opening value, none of whose triggers occurs, comes to the empty rows
 pub idle_rows : (table : Table) (count : ℕ) (kind : UnitKind) (w q : ℕ) → is_static kind ≡ false
-    → initial_of kind ≡ None →
-    evaluations_over table kind w q ≡ 0 → published (empty_by kind count) ≡ rows_over table
-    (initial_of kind) count kind w q
-idle_rows table count (unit_kind.Simple initially initiate terminate) w q built opens none =
-    fluent_idle table count initially initiate terminate w q opens none
-idle_rows table count (unit_kind.Static exprs) w q built opens none = absurd (true≢false built)
-idle_rows table count (unit_kind.Derived rules) w q built opens none =
+    → triggers_of table (rules_of kind) w q ≡ 0
+    → published (empty_by kind count) ≡ rows_over table None count kind w q
+idle_rows table count (unit_kind.Simple initially initiate terminate) w q built none =
+    fluent_idle table count initially initiate terminate w q none
+idle_rows table count (unit_kind.Static exprs) w q built none = absurd (true≢false built)
+idle_rows table count (unit_kind.Derived rules) w q built none =
     let idle : AreIdle table rules w q = are_idle table rules w q none in
     ap event_row
     (sym (points_alike (λ t. list_any (λ rule. body_holds table rule t) rules) (λ t. false) w q
     (λ t low high. (idle t low high).1)
     ∙ no_kept (range_with_len (w + 1) (q - w))))
+
+-- where one test is true only where another is, it has at most as many points
+fewer_by : (a b : Bool) (m n : ℕ) → m ≤ n → (b ≡ false → a ≡ false) → cond a (suc m) m
+    ≤ cond b (suc n) n
+fewer_by true true m n le is = omega (arith, le)
+fewer_by true false m n le is = absurd (true≢false (is refl))
+fewer_by false true m n le is = omega (arith, le)
+fewer_by false false m n le is = le
+
+cond_length : (b : Bool) (x : ℕ) (xs : List ℕ) → length (cond b (x ∷ xs) xs)
+    ≡ cond b (suc (length xs)) (length xs)
+cond_length true x xs = refl
+cond_length false x xs = refl
+
+fewer : (one two : ℕ → Bool) (xs : List ℕ) → ((t : ℕ) → two t ≡ false → one t ≡ false)
+    → length (filter one xs) ≤ length (filter two xs)
+fewer one two [] is = omega arith
+fewer one two (x ∷ xs) is =
+    subst (λ (n : ℕ). n ≤ length (filter two (x ∷ xs)))
+    (sym (cond_length (one x) x (filter one xs)))
+    (subst (λ (n : ℕ). cond (one x) (suc (length (filter one xs))) (length (filter one xs)) ≤ n)
+    (sym (cond_length (two x) x (filter two xs)))
+    (fewer_by (one x) (two x) (length (filter one xs)) (length (filter two xs))
+    (fewer one two xs is) (is x)))
+
+-- rules have no open points where none of their triggers occurs
+pub idle_touched : (before : Option ℕ) (cached : Cached) (store : Events) (rules : List Rule)
+    (w q : ℕ) → triggers_of (known cached.rows store) rules w q ≡ 0
+    → touched_of before cached store rules w q ≡ 0
+idle_touched before cached store [] w q none = refl
+idle_touched before cached store (rule ∷ rest) w q none =
+    let both : length (points (happens (known cached.rows store) rule.trigger) w q)
+    + triggers_of (known cached.rows store) rest w q ≡ 0 =
+    sym (sum_by-cons (λ rule. length (points (happens (known cached.rows store) rule.trigger) w q))
+    rule rest) ∙ none in
+    omega (
+      arith,
+      both,
+      idle_touched before cached store rest w q (omega (arith, both)),
+      fewer (λ t. happens (known cached.rows store) rule.trigger t
+          && is_open before cached store rule t) (happens (known cached.rows store) rule.trigger)
+          (range_with_len (w + 1) (q - w)) (λ t out. ap (λ (b : Bool). b && is_open before cached
+          store rule t) out),
+      sum_by-cons (λ (rule : Rule). length (open_points before cached store w q rule)) rule rest,
+    )

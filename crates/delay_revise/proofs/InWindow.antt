@@ -1,33 +1,28 @@
--- Rows that a unit comes to lie in the window.
+-- The rows of a unit in a query lie in its window.
 use Rattle.std.proofs.Common.{◌≡◌, ℕ, zero, suc, ◌+◌, ◌-◌, ◌<◌, ◌≤◌, Bool, true, false, ◌&&◌, leb}
-use Rattle.std.proofs.Common.{ltb, eqb, List, [], map, slice_get, Option, Some, None, refl, sym}
+use Rattle.std.proofs.Common.{ltb, List, [], map, slice_get, Option, Some, None, refl, sym}
 use Rattle.std.proofs.Common.{◌∙◌, ap, arith}
 use Rattle.std.specs.Prelude.{option_map, replicate}
 use Rattle.std.specs.List.{range_with_len}
 use Rattle.std.proofs.lemmas.Bool.Decides.{nat_tests}
 use Rattle.std.proofs.lemmas.Option.{slice_get-map}
-use Rattle.ground_types.specs.Publication.{initial_of}
-use Rattle.ground_types.specs.Recognition.{value_of_unit, static_of_unit}
+use Rattle.ground_types.specs.Publication.{rows_of_kind}
 use Rattle.ground_types.specs.Rows.{row}
 use Rattle.ground_types.specs.Sound.{unit_values}
-use Rattle.ground_types.specs.Truth.{Table, is_value}
-use Rattle.ground_types.specs.Windows.{left, right}
+use Rattle.ground_types.specs.Truth.{Table, holds}
 use Rattle.ground_types.proofs.Rows.{runs_are}
 use Rattle.ground_types.specs.declared.program.Unit.{Unit}
 use Rattle.ground_types.specs.declared.program.UnitKind.{UnitKind}
 use Rattle.ground_types.specs.declared.program.UnitKind.TheVariants.{Simple, Static, Derived}
 use Rattle.ground_types.specs.declared.program.Program.{Program}
-use Rattle.event_store.specs.Standing.{Events}
 use Rattle.layer_cache.specs.Cached.{empty_by, empty_rows, all_empty}
 use Rattle.layer_cache.specs.Told.{fluent_has, value_covers}
-use Rattle.point_rule.specs.Known.{known}
 use Rattle.simple_fluent.specs.Rows.{pairs}
 use Rattle.span_algebra.specs.declared.spans.Span.{Span}
 use Rattle.span_algebra.specs.declared.rows.UnitRows.{UnitRows}
 use Rattle.span_algebra.specs.declared.rows.UnitRows.TheVariants.{Fluent, Event}
 use Rattle.query_ask.specs.Right.{published}
-use Rattle.delay_revise.specs.Worked.{IsPut}
-use Rattle.delay_revise.specs.Working.{rows_over, IsInWindow}
+use Rattle.delay_revise.specs.Working.{IsInWindow}
 use Rattle.delay_revise.proofs.LookUp.{option_covers, value_covers_pairs}
 
 test_inside : (w q t : ℕ) (b : Bool) → (ltb w t && leb t (w + (q + 1 - w)) && b) ≡ true → (w < t)
@@ -58,44 +53,23 @@ rows_inside test count w q v t rows same is =
     ∙ slice_get-map (λ v. row (test v) w q) (range_with_len 0 count) v)) in
     row_inside test w q t (slice_get (range_with_len 0 count) v) (there ∙ is)
 
--- what a unit comes to over a table lies in the window
-over_inside : (table : Table) (opening : Option ℕ) (count : ℕ) (kind : UnitKind) (w q v t : ℕ)
-    (rows : Option UnitRows) →
-    option_map published rows ≡ Some (rows_over table opening count kind w q) → fluent_has rows v t
-    ≡ true → (w < t) × (t ≤ q + 1)
-over_inside table opening count kind w q v t None same is = cc
-over_inside table opening count kind w q v t (Some (Event points)) same is = cc
-over_inside table opening count (Simple initially initiate terminate) w q v t (Some (Fluent rows))
+-- what a unit comes to in a table lies in the window
+pub kind_inside : (table : Table) (number count : ℕ) (kind : UnitKind) (w q v t : ℕ)
+    (rows : Option UnitRows)
+    → option_map published rows ≡ Some (rows_of_kind table number count kind w q)
+    → fluent_has rows v t ≡ true → (w < t) × (t ≤ q + 1)
+kind_inside table number count kind w q v t None same is = cc
+kind_inside table number count kind w q v t (Some (Event points)) same is = cc
+kind_inside table number count (Simple initially initiate terminate) w q v t (Some (Fluent rows))
     same is =
-    let test : ℕ → ℕ → Bool = λ v t. is_value (value_of_unit table opening
-    (Simple initially initiate terminate) w t) v in
-    let all : map pairs rows ≡ map (λ v. row (test v) w q) (range_with_len 0 count) = cc in
-    rows_inside test count w q v t rows all is
-over_inside table opening count (Static exprs) w q v t (Some (Fluent rows)) same is =
-    let test : ℕ → ℕ → Bool = λ v t. static_of_unit table (Static exprs) v t in
-    let all : map pairs rows ≡ map (λ v. row (test v) w q) (range_with_len 0 count) = cc in
-    rows_inside test count w q v t rows all is
-over_inside table opening count (Derived rules) w q v t (Some (Fluent rows)) same is = cc
-
--- a unit whose rows are put leaves all in the window
-module _ (program : Program) (store : Events) (number : ℕ) (old new : List UnitRows) (unit : Unit)
-    (at : slice_get program.units number ≡ Some unit) (put : IsPut program store number old new)
-    (inside : IsInWindow (left program.plan 0) (right program.plan 0) old) where
-  put_by : (other v t : ℕ) (b : Bool) → eqb number other ≡ b → fluent_has (slice_get new other) v t
-      ≡ true →
-      (left program.plan 0 < t) × (t ≤ right program.plan 0 + 1)
-  put_by other v t true same is =
-      let here : number ≡ other = grind (arith, nat_tests) in
-      over_inside (known old store) (initial_of unit.kind) (unit_values program unit) unit.kind
-      (left program.plan 0) (right program.plan 0) v t
-      (slice_get new number) (put.here unit at) (ap (λ (n : ℕ). fluent_has (slice_get new n) v t)
-      here ∙ is)
-  put_by other v t false differ is =
-      inside other v t (ap (λ (rows : Option UnitRows). fluent_has rows v t)
-      (sym (put.others other differ)) ∙ is)
-
-  pub put_inside : IsInWindow (left program.plan 0) (right program.plan 0) new
-  put_inside = λ other v t is. put_by other v t (eqb number other) refl is
+    let all : map pairs rows ≡ map (λ v. row (holds table number v) w q) (range_with_len 0 count)
+    = cc in
+    rows_inside (holds table number) count w q v t rows all is
+kind_inside table number count (Static exprs) w q v t (Some (Fluent rows)) same is =
+    let all : map pairs rows ≡ map (λ v. row (holds table number v) w q) (range_with_len 0 count)
+    = cc in
+    rows_inside (holds table number) count w q v t rows all is
+kind_inside table number count (Derived rules) w q v t (Some (Fluent rows)) same is = cc
 
 -- empty rows have no point
 

@@ -10,7 +10,6 @@ use Rattle.std.proofs.lemmas.List.Folds.{list_all-append}
 use Rattle.std.proofs.lemmas.Option.{slice_get-map, slice_get-get_or, same_Some}
 use Rattle.std.proofs.lemmas.List.FromFn.{get_or-range_with_len, length-range_with_len}
 use Rattle.std.proofs.lemmas.Bool.{and_parts}
-use Rattle.ground_types.specs.History.{before_seal}
 use Rattle.ground_types.specs.Meaning.{IsMeaning, units_of_trigger, units_of_what, units_of_rule}
 use Rattle.ground_types.specs.Members.{contains}
 use Rattle.ground_types.specs.Publication.{PublishedRows, rows_of_kind, value_count, opening_of}
@@ -43,9 +42,8 @@ use Rattle.span_algebra.specs.Normal.{has, covers as has_span}
 use Rattle.span_algebra.specs.declared.spans.Span.{Span}
 use Rattle.span_algebra.specs.declared.rows.UnitRows.{UnitRows}
 use Rattle.span_algebra.specs.declared.rows.UnitRows.TheVariants.{Fluent, Event}
-use Rattle.delay_revise.specs.Published.{Stand, OccurIn, HaveRowsOf}
+use Rattle.delay_revise.specs.Published.{OccurIn, HaveRowsOf}
 use Rattle.query_ask.specs.Right.{published}
-use Rattle.delay_revise.specs.Worked.{IsWorked}
 use Rattle.delay_revise.proofs.Occurs.{inside_is, occurs_there}
 
 -- where the input events of query k occur
@@ -80,7 +78,8 @@ value_covers_pairs (Some row) t = covers_pairs row t
 zero_first : (v : ℕ) → 0 + v ≡ v
 zero_first v = omega arith
 
-range_at : (n v : ℕ) → v < n → slice_get (range_with_len 0 n) v ≡ Some v
+-- the number at a place of a range from 0 on
+pub range_at : (n v : ℕ) → v < n → slice_get (range_with_len 0 n) v ≡ Some v
 range_at n v lt =
     let within : v < length (range_with_len 0 n) = omega (arith, length-range_with_len 0 n) in
     slice_get-get_or (range_with_len 0 n) v 0 within ∙ ap Some (get_or-range_with_len 0 n v 0 lt
@@ -153,7 +152,7 @@ place_of at a (suc k) n (u ∷ units) unit is found = place_of at (a + 1) k n un
     (omega arith) found
 
 -- what is published of a unit, by its kind
-published_of : (program : Program) (history : List Entry) (k number : ℕ) (unit : Unit)
+pub published_of : (program : Program) (history : List Entry) (k number : ℕ) (unit : Unit)
     → slice_get program.units number ≡ Some unit →
     slice_get (publication program history k).rows number
     ≡ Some (rows_of_kind (query_table program history k) number (unit_values program unit)
@@ -162,14 +161,6 @@ published_of program history k number unit at =
     place_of (λ unit. rows_of_kind (query_table program history k) unit.0
     (value_count (slice_get program.names unit.1.name)) unit.1.kind (left program.plan k)
     (right program.plan k)) 0 number number program.units unit (omega arith) at
-
--- units that are worked have the rows of query 0
-pub rows_worked : (program : Program) (history : List Entry) (store : Events) (below : List ℕ)
-    (rows : List UnitRows) → Stand program store (before_seal history 0)
-    → IsWorked program store below rows → HaveRowsOf program history 0 below rows
-rows_worked program history store below rows stand worked =
-    λ number unit at done. worked.each number unit at done history stand
-    ∙ sym (published_of program history 0 number unit at)
 
 -- the input events of a store
 abbrev pub occurs_of : Events → ℕ → ℕ → Bool

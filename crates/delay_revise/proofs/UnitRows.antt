@@ -1,18 +1,17 @@
 -- The rows of a unit follow from the points of its rules.
 use Rattle.std.proofs.Common.{◌≡◌, inl, ℕ, zero, suc, ◌+◌, ◌<◌, ◌≤◌, Bool, true, ◌&&◌, ◌||◌}
-use Rattle.std.proofs.Common.{ltb, leb, List, [], ◌∷◌, ◌++◌, map, length, Option, Some, None, refl}
+use Rattle.std.proofs.Common.{ltb, leb, List, [], ◌∷◌, ◌++◌, map, length, Option, refl}
 use Rattle.std.proofs.Common.{sym, ◌∙◌, ap, ap₂, arith, subst}
 use Rattle.std.specs.List.{list_any, list_all, range_with_len, AllByRecursion}
 use Rattle.std.proofs.Math.Bool.{and-false, and-or_distrib_left}
-use Rattle.std.proofs.lemmas.Bool.Decides.{nat_tests}
 use Rattle.std.proofs.lemmas.Bool.{and_parts}
 use Rattle.ground_types.specs.Truth.{Table, body_holds, is_value}
 use Rattle.ground_types.specs.Members.{contains}
 use Rattle.ground_types.specs.Inertia.{values_with, has_value}
 use Rattle.ground_types.specs.Recognition.{values_of, value_of_unit}
 use Rattle.ground_types.specs.Rows.{row, points}
-use Rattle.ground_types.specs.Publication.{fluent_rows, event_row, initial_of}
-use Rattle.ground_types.specs.Sound.{kind_fits, rule_fits, initial_fits, trigger_fits, what_fits}
+use Rattle.ground_types.specs.Publication.{fluent_rows, event_row}
+use Rattle.ground_types.specs.Sound.{initial_fits, kind_fits, rule_fits, trigger_fits, what_fits}
 use Rattle.ground_types.specs.Touched.{rules_of}
 use Rattle.ground_types.proofs.Points.{points_are}
 use Rattle.ground_types.specs.declared.program.Program.{Program}
@@ -26,10 +25,6 @@ use Rattle.delay_revise.specs.Working.{rows_over, IsSimple}
 use Rattle.delay_revise.proofs.Alike.{row_alike, value_alike}
 
 -- ---- what is known of a unit
-
-initial_below : (values : ℕ) (o : Option ℕ) → initial_fits values o ≡ true → IsValueBelow values o
-initial_below values None is = tt
-initial_below values (Some v) is = grind (arith, nat_tests)
 
 values_below : (program : Program) (values : ℕ) (rules : List Rule)
     → list_all (rule_fits program values) rules ≡ true →
@@ -57,19 +52,18 @@ pub each_right : {X : Type 0} (P : X → Type 0) (xs ys : List X) → AllByRecur
 each_right P [] ys all = all
 each_right P (x ∷ xs) ys all = each_right P xs ys all.1
 
-simple_by : (program : Program) (P : Rule → Type 0) (values : ℕ) (initially : Option ℕ)
-    (initiate terminate : List Rule) →
+simple_by : (program : Program) (P : Rule → Type 0) (values : ℕ) (opening initially : Option ℕ)
+    (initiate terminate : List Rule) → IsValueBelow values opening →
     kind_fits program values (unit_kind.Simple initially initiate terminate) ≡ true
     → AllByRecursion P (initiate ++ terminate) →
-    IsSimple P values initially initiate terminate
-simple_by program P values initially initiate terminate fits all =
+    IsSimple P values opening initiate terminate
+simple_by program P values opening initially initiate terminate opens fits all =
     let some : (initial_fits values initially && list_all (rule_fits program values) initiate)
     ≡ true =
     (and_parts (initial_fits values initially && list_all (rule_fits program values) initiate)
     (list_all (rule_fits program values) terminate) fits).0 in
     record {
-      opens = initial_below values initially (and_parts (initial_fits values initially)
-          (list_all (rule_fits program values) initiate) some).0;
+      opens = opens;
       inits = values_below program values initiate (and_parts (initial_fits values initially)
           (list_all (rule_fits program values) initiate) some).1;
       terms = values_below program values terminate
@@ -80,14 +74,14 @@ simple_by program P values initially initiate terminate fits all =
     }
 
 pub simple_of : (program : Program) (P : Rule → Type 0) (values count : ℕ) (kind : UnitKind)
-    (initially : Option ℕ) (initiate terminate : List Rule) →
+    (opening initially : Option ℕ) (initiate terminate : List Rule) → IsValueBelow values opening →
     kind_fits program values kind ≡ true → AllByRecursion P (rules_of kind)
     → kind ≡ unit_kind.Simple initially initiate terminate → count ≡ values →
-    IsSimple P count initially initiate terminate
-simple_of program P values count kind initially initiate terminate fits all is many =
-    subst (λ (n : ℕ). IsSimple P n initially initiate terminate) (sym many)
-    (simple_by program P values initially initiate terminate (ap (kind_fits program values)
-    (sym is) ∙ fits)
+    IsSimple P count opening initiate terminate
+simple_of program P values count kind opening initially initiate terminate opens fits all is many =
+    subst (λ (n : ℕ). IsSimple P n opening initiate terminate) (sym many)
+    (simple_by program P values opening initially initiate terminate opens
+    (ap (kind_fits program values) (sym is) ∙ fits)
     (subst (λ (k : UnitKind). AllByRecursion P (rules_of k)) is all))
 
 -- ---- the rows of a simple fluent
@@ -121,15 +115,15 @@ simple_rows table initially initiate terminate inits terms count w q many ins ou
     is_value (value_of_unit table initially (unit_kind.Simple initially initiate terminate) w t)
     v) w q) (range_with_len 0 n)) many)
 
-pub fluent_rows_are : (table : Table) (kind : UnitKind) (initially : Option ℕ)
+pub fluent_rows_are : (table : Table) (kind : UnitKind) (opening initially : Option ℕ)
     (initiate terminate : List Rule) (values count w q : ℕ) →
     kind ≡ unit_kind.Simple initially initiate terminate → count ≡ values →
-    rows_over table initially count (unit_kind.Simple initially initiate terminate) w q
-    ≡ rows_over table (initial_of kind) values kind w q
-fluent_rows_are table kind initially initiate terminate values count w q is many =
-    ap (λ (n : ℕ). rows_over table initially n (unit_kind.Simple initially initiate terminate) w q)
+    rows_over table opening count (unit_kind.Simple opening initiate terminate) w q
+    ≡ rows_over table opening values kind w q
+fluent_rows_are table kind opening initially initiate terminate values count w q is many =
+    ap (λ (n : ℕ). rows_over table opening n (unit_kind.Simple initially initiate terminate) w q)
     many
-    ∙ ap (λ (k : UnitKind). rows_over table (initial_of k) values k w q) (sym is)
+    ∙ ap (λ (k : UnitKind). rows_over table opening values k w q) (sym is)
 
 -- ---- the points of a derived event
 
@@ -143,17 +137,17 @@ some_points table (rule ∷ rest) w q t le =
     ∙ sym (and-or_distrib_left (ltb w t && leb t q) (body_holds table rule t)
     (list_any (λ rule. body_holds table rule t) rest))
 
-pub event_row_is : (table : Table) (kind : UnitKind) (rules given : List Rule) (found : List ℕ)
-    (values w q : ℕ) → w < q →
+pub event_row_is : (table : Table) (opening : Option ℕ) (kind : UnitKind)
+    (rules given : List Rule) (found : List ℕ) (values w q : ℕ) → w < q →
     kind ≡ unit_kind.Derived rules → given ≡ rules → IsRising found →
     ((t : ℕ) → contains found t ≡ list_any (λ rule. contains (points (body_holds table rule) w q)
     t) given) →
-    event_row found ≡ rows_over table (initial_of kind) values kind w q
-event_row_is table kind rules given found values w q lt is same rising each =
+    event_row found ≡ rows_over table opening values kind w q
+event_row_is table opening kind rules given found values w q lt is same rising each =
     let le : w ≤ q = omega arith in
     ap event_row
     (points_of_window (λ t. list_any (λ rule. body_holds table rule t) rules) w q found (inl le)
     rising
     (λ t. each t ∙ ap (list_any (λ rule. contains (points (body_holds table rule) w q) t)) same
     ∙ some_points table rules w q t le))
-    ∙ ap (λ (k : UnitKind). rows_over table (initial_of k) values k w q) (sym is)
+    ∙ ap (λ (k : UnitKind). rows_over table opening values k w q) (sym is)

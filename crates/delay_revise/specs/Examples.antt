@@ -4,12 +4,13 @@ use Rattle.std.specs.Prelude.{◌≡◌, ℕ, List, [], ◌∷◌, None, Some, r
 use Rattle.ground_types.specs.Examples.{gear}
 use Rattle.ground_types.specs.Publication.{fluent_rows}
 use Rattle.ground_types.specs.Recognition.{kind_of}
+use Rattle.ground_types.specs.Touched.{rules_of}
 use Rattle.ground_types.specs.declared.program.Expr.{Row}
 use Rattle.ground_types.specs.declared.program.UnitKind.TheVariants.{Static}
 use Rattle.event_store.specs.Standing.{Kept}
 use Rattle.point_rule.specs.Known.{known}
 use Rattle.span_algebra.specs.declared.rows.UnitRows.TheVariants.{Fluent}
-use Rattle.delay_revise.specs.Working.{rows_over, evaluations_over}
+use Rattle.delay_revise.specs.Working.{rows_over, triggers_of}
 
 -- an event stands at these points, as it did
 abbrev kept : List ℕ → Kept
@@ -39,7 +40,7 @@ of_expressions : rows_over (known (Fluent ((record { after = 2; until = 6 } ∷ 
     ≡ fluent_rows (((4, 11) ∷ []) ∷ ((2, 6) ∷ []) ∷ [] ∷ [])
 of_expressions = refl
 
--- each body is looked at where its trigger occurs in the window
-looked_at : evaluations_over (known [] ((0, kept (0 ∷ 2 ∷ 10 ∷ [])) ∷ (1, kept (6 ∷ 11 ∷ []))
-    ∷ [])) (kind_of gear 0) 0 10 ≡ 3
-looked_at = refl
+-- each trigger is looked for in the window
+triggered : triggers_of (known [] ((0, kept (0 ∷ 2 ∷ 10 ∷ [])) ∷ (1, kept (6 ∷ 11 ∷ [])) ∷ []))
+    (rules_of (kind_of gear 0)) 0 10 ≡ 3
+triggered = refl

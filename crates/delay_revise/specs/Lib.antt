@@ -1,4 +1,9 @@
 pub mod Published
-pub mod Worked
+pub mod Revising
+pub mod Going
 pub mod Working
 pub mod Examples
+pub mod Layers
+pub mod Counting
+pub mod Lamps
+pub mod Orders

@@ -1,5 +1,5 @@
 -- Public contracts speak by this: what is computed, against what is published of a history.
-use Rattle.std.specs.Prelude.{◌≡◌, ◌<◌, ◌≤◌, ℕ, suc, Bool, true, List, map, slice_get, Some}
+use Rattle.std.specs.Prelude.{◌≡◌, ◌<◌, ◌≤◌, ℕ, suc, Bool, true, List, slice_get, Some}
 use Rattle.std.specs.Prelude.{option_map}
 use Rattle.ground_types.specs.History.{stands, before_seal}
 use Rattle.ground_types.specs.Members.{contains}
@@ -8,17 +8,8 @@ use Rattle.ground_types.specs.Publication.{publication}
 use Rattle.ground_types.specs.declared.entries.Entry.{Entry}
 use Rattle.ground_types.specs.declared.program.Program.{Program}
 use Rattle.ground_types.specs.declared.program.Unit.{Unit}
-use Rattle.span_algebra.specs.Normal.{has}
 use Rattle.span_algebra.specs.declared.rows.UnitRows.{UnitRows}
-use Rattle.event_store.specs.Standing.{Events, standing}
 use Rattle.query_ask.specs.Right.{published}
-
--- the events of the program that stand after a history are those of the store, at each point of the
--- window of query 0
-abbrev pub Stand : Program → Events → List Entry → Type 0
-Stand program store history =
-    (event t : ℕ) → event < program.events → left program.plan 0 < t → t ≤ right program.plan 0 →
-    has (standing store event) t ≡ stands history event t
 
 -- these events occur at the points of the window of query k where they stand at its seal
 abbrev pub OccurIn : Program → List Entry → ℕ → (ℕ → ℕ → Bool) → Type 0

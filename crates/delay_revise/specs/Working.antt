@@ -1,17 +1,19 @@
 -- For private functions alone: what a unit comes to over a table of what its rules name, and what
 -- is known of a unit and of rows while they are computed.
-use Rattle.std.specs.Prelude.{◌≡◌, ◌<◌, ◌≤◌, ℕ, ◌+◌, Bool, true, false, List, map, length}
+use Rattle.std.specs.Prelude.{◌≡◌, ◌<◌, ◌≤◌, ℕ, ◌+◌, Bool, true, false, ◌&&◌, List, map, length}
 use Rattle.std.specs.Prelude.{slice_get, sum_by, nat_lt, Option}
 use Rattle.std.specs.List.{range_with_len, list_all, AllByRecursion}
 use Rattle.ground_types.specs.Truth.{Table, is_value, happens}
 use Rattle.ground_types.specs.Recognition.{value_of_unit, static_of_unit, derived_of_unit}
 use Rattle.ground_types.specs.Rows.{row, points}
-use Rattle.ground_types.specs.Touched.{rules_of}
 use Rattle.ground_types.specs.Publication.{PublishedRows, fluent_rows, event_row}
 use Rattle.ground_types.specs.declared.program.Rule.{Rule}
 use Rattle.ground_types.specs.declared.program.UnitKind.{UnitKind}
 use Rattle.ground_types.specs.declared.program.UnitKind.TheVariants as unit_kind
+use Rattle.layer_cache.specs.Rows.{Cached}
 use Rattle.layer_cache.specs.Told.{fluent_has}
+use Rattle.event_store.specs.Standing.{Events}
+use Rattle.point_rule.specs.Known.{known, is_open}
 use Rattle.span_algebra.specs.declared.rows.UnitRows.{UnitRows}
 use Rattle.simple_fluent.specs.Rows.{IsValueBelow}
 
@@ -34,14 +36,20 @@ rows_over table opening count (unit_kind.Static exprs) w q =
 rows_over table opening count (unit_kind.Derived rules) w q =
     event_row (points (derived_of_unit table (unit_kind.Derived rules)) w q)
 
--- at how many points the bodies of rules have to be looked at for query 0: all at which their
--- triggers occur
-abbrev pub evaluations_of : Table → List Rule → ℕ → ℕ → ℕ
-evaluations_of table rules w q = sum_by (λ rule. length (points (happens table rule.trigger) w q))
+-- at how many points of the window (w, q] the triggers of rules occur
+abbrev pub triggers_of : Table → List Rule → ℕ → ℕ → ℕ
+triggers_of table rules w q = sum_by (λ rule. length (points (happens table rule.trigger) w q))
     rules
 
-abbrev pub evaluations_over : Table → UnitKind → ℕ → ℕ → ℕ
-evaluations_over table kind w q = evaluations_of table (rules_of kind) w q
+-- at how many of them the query before, which ended at `before`, does not settle the body
+abbrev pub open_points : Option ℕ → Cached → Events → ℕ → ℕ → Rule → List ℕ
+open_points before cached store w q rule =
+    points (λ t. happens (known cached.rows store) rule.trigger t && is_open before cached store
+    rule t) w q
+
+abbrev pub touched_of : Option ℕ → Cached → Events → List Rule → ℕ → ℕ → ℕ
+touched_of before cached store rules w q =
+    sum_by (λ rule. length (open_points before cached store w q rule)) rules
 
 -- the rows of fluents have points among the value points of the window (w, q] alone
 abbrev pub IsInWindow : ℕ → ℕ → List UnitRows → Type 0

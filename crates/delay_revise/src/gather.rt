@@ -1,5 +1,5 @@
 // The points at which the bodies of rules are true.
-ghost use Rattle.std.specs.Prelude.{◌≡◌, ◌≤◌, ◌<◌, ◌+◌, ◌-◌, ◌^◌, ◌==◌, ◌&&◌, ◌||◌, ℕ, [], nat_lt};
+ghost use Rattle.std.specs.Prelude.{◌≡◌, ◌≤◌, ◌<◌, ◌+◌, ◌-◌, ◌*◌, ◌^◌, ◌==◌, ◌||◌, ℕ, [], nat_lt};
 ghost use Rattle.std.specs.Prelude.{true, length, replicate, slice_index_or, IfOk, OnOk, OnErr};
 ghost use Rattle.std.specs.List.{list_all, list_any, AllByRecursion};
 ghost use Rattle.ground_types.specs.Members.{contains};
@@ -10,41 +10,69 @@ ghost use Rattle.ground_types.specs.Truth.{happens, body_holds};
 ghost use Rattle.span_algebra.specs.Normal.{IsRising};
 ghost use Rattle.simple_fluent.specs.Rows.{IsInside};
 ghost use Rattle.point_rule.specs.Known.{known, HasRows};
-ghost use Rattle.delay_revise.specs.Working.{evaluations_of};
+ghost use Rattle.delay_revise.specs.Working.{triggers_of, touched_of};
 
 use derived_event::derived_points;
 use event_store::EventStore;
 use ground_types::{Point, Rule};
 use layer_cache::Cache;
-use point_rule::{revise_rule, touched};
+use point_rule::{revise_rule, touched, triggered};
 use rt_base::{OutOfMemory, Steps};
 use span_algebra::Points;
 use std::alloc::Global;
 use std::marker::Model;
 use std::sync::ledger::Ledger;
 
-// At how many points the bodies of rules have to be looked at for query 0.
-pub(crate) fn evaluations_of(
+// At how many points of the window the bodies of rules have to be looked at, after a query that
+// ended at `before`, where there was one.
+pub(crate) fn count_touched(
+    alloc: Global,
+    rules: &[Rule],
+    cache: &Cache,
+    store: &EventStore,
+    before: Option<Point>,
+    w: Point,
+    q: Point,
+) -> Result<u64, OutOfMemory>
+    requires rows { AllByRecursion (HasRows cache.now.rows) rules.now }
+    requires old_rows { AllByRecursion (HasRows cache.now.before) rules.now }
+    requires few { length rules.now ≤ 262144 }
+    requires width { q - w ≤ 1000000000000 }
+    requires end { q < 2 ^ 64 - 1 }
+    ensures count { IfOk result (λ count. count ≡ touched_of before cache.now store.now rules.now w
+        q) }
+    ensures most { IfOk result (λ count. count ≤ length rules.now * 1000000000000) }
+{
+    let mut count = 0;
+    for rule in rules {
+        let at = touched(alloc, rule, cache, store, before, w, q)?;
+        count += at.as_slice().len() as u64;
+    }
+    Ok(count)
+}
+
+// Whether no trigger of some rules occurs in the window. One look-up for each rule.
+pub(crate) fn are_quiet(
     alloc: Global,
     rules: &[Rule],
     cache: &Cache,
     store: &EventStore,
     w: Point,
     q: Point,
-) -> Result<u128, OutOfMemory>
+) -> Result<bool, OutOfMemory>
     requires rows { AllByRecursion (HasRows cache.now.rows) rules.now }
-    requires old_rows { AllByRecursion (HasRows cache.now.before) rules.now }
-    requires few { length rules.now ≤ 262144 }
-    requires end { q < 2 ^ 64 - 1 }
-    ensures { IfOk result (λ count. count ≡ evaluations_of (known cache.now.rows store.now)
-        rules.now w q) }
+    ensures { IfOk result (λ quiet. quiet ≡ (triggers_of (known cache.now.rows store.now) rules.now
+        w q == 0)) }
 {
-    let mut count = 0;
     for rule in rules {
-        let at = touched(alloc, rule, cache, store, None, w, q)?;
-        count += at.as_slice().len() as u128;
+        if !triggered(alloc, rule, cache, store, w, q)?
+            .as_slice()
+            .is_empty()
+        {
+            return Ok(false);
+        }
     }
-    Ok(count)
+    Ok(true)
 }
 
 // How much lists of points may take beside twice what they took when they were last joined.
@@ -167,10 +195,10 @@ pub(crate) fn points_of_rules<L: Ledger>(
         ≡ list_any (λ rule. contains (points (body_holds (known cache.now.rows store.now) rule) w
         q) t) rules.now) }
     ensures steps { OnOk result (steps.new ≡ record {
-      count = steps.old.count + evaluations_of (known cache.now.rows store.now) rules.now w q;
+      count = steps.old.count + triggers_of (known cache.now.rows store.now) rules.now w q;
       out = steps.old.out;
     }) }
-    ensures most { OnErr result (steps.new.count ≤ steps.old.count + evaluations_of
+    ensures most { OnErr result (steps.new.count ≤ steps.old.count + triggers_of
         (known cache.now.rows store.now) rules.now w q) }
     ensures parts { steps.new.out ≡ steps.old.out }
 {
@@ -229,10 +257,10 @@ pub(crate) fn points_by_value<L: Ledger>(
         contains (values_with 0 found.items t) v
         ≡ contains (values_of (known cache.now.rows store.now) rules.now t) v) }
     ensures steps { OnOk result (steps.new ≡ record {
-      count = steps.old.count + evaluations_of (known cache.now.rows store.now) rules.now w q;
+      count = steps.old.count + triggers_of (known cache.now.rows store.now) rules.now w q;
       out = steps.old.out;
     }) }
-    ensures most { OnErr result (steps.new.count ≤ steps.old.count + evaluations_of
+    ensures most { OnErr result (steps.new.count ≤ steps.old.count + triggers_of
         (known cache.now.rows store.now) rules.now w q) }
     ensures parts { steps.new.out ≡ steps.old.out }
 {

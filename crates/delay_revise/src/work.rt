@@ -1,9 +1,10 @@
 // The rows of one unit, from the rows of the units that its rules name.
-ghost use Rattle.std.specs.Prelude.{◌≡◌, ◌≤◌, ◌<◌, ◌+◌, ◌-◌, ◌^◌, nat_lt, ℕ, true, map, length};
+ghost use Rattle.std.specs.Prelude.{◌≡◌, ◌≤◌, ◌<◌, ◌+◌, ◌-◌, ◌^◌, ◌++◌, nat_lt, ℕ, true, map};
+ghost use Rattle.std.specs.Prelude.{length};
 ghost use Rattle.std.specs.Prelude.{IfOk, OnOk, OnErr};
 ghost use Rattle.std.specs.List.{list_all, AllByRecursion};
 ghost use Rattle.ground_types.specs.Meaning.{units_of_expr};
-ghost use Rattle.ground_types.specs.Publication.{initial_of, fluent_rows};
+ghost use Rattle.ground_types.specs.Publication.{fluent_rows};
 ghost use Rattle.ground_types.specs.Rows.{row};
 ghost use Rattle.ground_types.specs.Sound.{unit_values, kind_fits};
 ghost use Rattle.ground_types.specs.Touched.{rules_of};
@@ -11,10 +12,10 @@ ghost use Rattle.ground_types.specs.Truth.{expr_holds};
 ghost use Rattle.ground_types.specs.declared.program.UnitKind.TheVariants.{Simple};
 ghost use Rattle.layer_cache.specs.Told.{told};
 ghost use Rattle.point_rule.specs.Known.{known, HasRows};
-ghost use Rattle.simple_fluent.specs.Rows.{pairs};
+ghost use Rattle.simple_fluent.specs.Rows.{pairs, IsValueBelow};
 ghost use Rattle.static_fluent.specs.Constructs.{has_members, has_rows};
 ghost use Rattle.query_ask.specs.Right.{published};
-ghost use Rattle.delay_revise.specs.Working.{rows_over, evaluations_over, IsInWindow, IsSimple};
+ghost use Rattle.delay_revise.specs.Working.{rows_over, triggers_of, IsInWindow, IsSimple};
 
 use crate::gather::{points_by_value, points_of_rules};
 use event_store::EventStore;
@@ -47,7 +48,7 @@ fn rows_of_exprs(alloc: Global, exprs: &[Expr], cache: &Cache) -> Result<Vec<Spa
 fn rows_of_simple<L: Ledger>(
     alloc: Global,
     count: usize,
-    initially: Option<Value>,
+    opening: Option<Value>,
     initiate: &[Rule],
     terminate: &[Rule],
     cache: &Cache,
@@ -56,32 +57,33 @@ fn rows_of_simple<L: Ledger>(
     q: Point,
     steps: &mut Steps<L>,
 ) -> Result<Vec<Spans>, OutOfMemory>
-    requires simple { IsSimple (HasRows cache.now.rows) count initially initiate.now terminate.now }
+    requires simple { IsSimple (HasRows cache.now.rows) count opening initiate.now terminate.now }
     requires window { w < q }
     requires end { q < 2 ^ 64 - 1 }
     ensures rows { IfOk result (λ rows. fluent_rows (map pairs rows.items)
-        ≡ rows_over (known cache.now.rows store.now) initially count
-        (Simple initially initiate.now terminate.now) w q) }
+        ≡ rows_over (known cache.now.rows store.now) opening count
+        (Simple opening initiate.now terminate.now) w q) }
     ensures steps { OnOk result (steps.new ≡ record {
-      count = steps.old.count + evaluations_over (known cache.now.rows store.now)
-          (Simple initially initiate.now terminate.now) w q;
+      count = steps.old.count + triggers_of (known cache.now.rows store.now)
+          (initiate.now ++ terminate.now) w q;
       out = steps.old.out;
     }) }
-    ensures most { OnErr result (steps.new.count ≤ steps.old.count + evaluations_over
-        (known cache.now.rows store.now) (Simple initially initiate.now terminate.now) w q) }
+    ensures most { OnErr result (steps.new.count ≤ steps.old.count + triggers_of
+        (known cache.now.rows store.now) (initiate.now ++ terminate.now) w q) }
     ensures parts { steps.new.out ≡ steps.old.out }
 {
     let inits = points_by_value(alloc, initiate, count, cache, store, w, q, steps)?;
     let terms = points_by_value(alloc, terminate, count, cache, store, w, q, steps)?;
-    let rows = spans_of(alloc, initially, &inits, &terms, w, q)?;
+    let rows = spans_of(alloc, opening, &inits, &terms, w, q)?;
     Ok(rows)
 }
 
-// The rows of a unit over the window of query 0.
+// The rows of a unit over a window, from the value with which it opens.
 pub(crate) fn rows_of_unit<L: Ledger>(
     alloc: Global,
     program: &Program,
     unit: &Unit,
+    opening: Option<Value>,
     cache: &Cache,
     store: &EventStore,
     w: Point,
@@ -92,29 +94,31 @@ pub(crate) fn rows_of_unit<L: Ledger>(
     requires size { length cache.now.rows ≡ length program.now.units }
     requires inside { IsInWindow w q cache.now.rows }
     requires rows { AllByRecursion (HasRows cache.now.rows) (rules_of unit.now.kind) }
+    requires opens { IsValueBelow (unit_values program.now unit.now) opening }
     requires window { w < q }
     requires end { q < 2 ^ 64 - 1 }
     ensures rows { IfOk result (λ rows. published rows
-        ≡ rows_over (known cache.now.rows store.now) (initial_of unit.now.kind)
+        ≡ rows_over (known cache.now.rows store.now) opening
         (unit_values program.now unit.now) unit.now.kind w q) }
     ensures steps { OnOk result (steps.new ≡ record {
-      count = steps.old.count + evaluations_over (known cache.now.rows store.now) unit.now.kind w q;
+      count = steps.old.count + triggers_of (known cache.now.rows store.now)
+          (rules_of unit.now.kind) w q;
       out = steps.old.out;
     }) }
-    ensures most { OnErr result (steps.new.count ≤ steps.old.count + evaluations_over
-        (known cache.now.rows store.now) unit.now.kind w q) }
+    ensures most { OnErr result (steps.new.count ≤ steps.old.count + triggers_of
+        (known cache.now.rows store.now) (rules_of unit.now.kind) w q) }
     ensures parts { steps.new.out ≡ steps.old.out }
 {
     match &unit.kind {
         UnitKind::Simple {
-            initially,
             initiate,
             terminate,
+            ..
         } => {
             let count = value_count(program, unit);
             let (initiate, terminate) = (initiate.as_slice(), terminate.as_slice());
             let rows = rows_of_simple(
-                alloc, count, *initially, initiate, terminate, cache, store, w, q, steps,
+                alloc, count, opening, initiate, terminate, cache, store, w, q, steps,
             )?;
             Ok(UnitRows::Fluent(List::of(rows)))
         }

@@ -4,7 +4,7 @@ use Rattle.ground_types.specs.Members.{contains}
 use Rattle.ground_types.specs.Rows.{points}
 use Rattle.ground_types.specs.Truth.{body_holds}
 use Rattle.point_rule.specs.Known.{known}
-use Rattle.delay_revise.specs.Working.{evaluations_of}
+use Rattle.delay_revise.specs.Working.{triggers_of}
 use Rattle.delay_revise.proofs.Joined.{some_has}
 use Rattle.delay_revise.proofs.gather.points_of_rules.Given as goal
 
@@ -14,7 +14,7 @@ invariant-loop-rule g l = record {
       (λ rule. contains (points (body_holds (known l.cache.rows l.store) rule) l.w l.q) t)
       (take l.rule-index l.rules);
   steps : l.steps ≡ record {
-    count = l.fn.steps.count + evaluations_of (known l.cache.rows l.store)
+    count = l.fn.steps.count + triggers_of (known l.cache.rows l.store)
         (take l.rule-index l.rules) l.w l.q;
     out = l.fn.steps.out;
   };
