@@ -1,1 +1,4 @@
 pub mod Legal
+mod Counts
+pub mod Wholes
+mod Ports

@@ -1,3 +1,5 @@
 pub mod Report
 pub mod Printed
 pub mod EventLines
+-- For tests alone.
+pub mod Examples

@@ -1,12 +1,18 @@
 -- Public contracts speak by this: the parts of a report, from what is at hand where each is
 -- printed.
-use Rattle.std.specs.Prelude.{ℕ, List, [], ◌∷◌, ◌++◌, sum_by, codes, decimal}
+use Rattle.std.specs.Prelude.{◌≡◌, ℕ, nat_le, Bool, true, List, [], ◌∷◌, ◌++◌, map, length, sum_by}
+use Rattle.std.specs.Prelude.{codes, decimal}
+use Rattle.std.specs.List.{All, list_all, range_with_len}
 use Rattle.ground_types.specs.Windows.{left, right}
 use Rattle.ground_types.specs.History.{seals}
-use Rattle.ground_types.specs.Publication.{PublishedRows}
+use Rattle.ground_types.specs.Sound.{IsSound}
+use Rattle.ground_types.specs.Publication.{PublishedRows, publication}
+use Rattle.ground_types.specs.Touched.{evaluations}
 use Rattle.ground_types.specs.declared.entries.Entry.{Entry}
 use Rattle.ground_types.specs.declared.entries.Entry.TheVariants.{Fed, Seal}
+use Rattle.ground_types.specs.declared.program.Name.{Name}
 use Rattle.ground_types.specs.declared.program.Program.{Program}
+use Rattle.query_ask.specs.Right.{Parts, published}
 use Rattle.report_text.specs.Report.{entry_line, query_line, row_lines, entries_line, span_count}
 use Rattle.report_text.specs.Report.{point_count}
 
@@ -16,7 +22,7 @@ feed_lines program (Fed feeder act event at reply) = entry_line program feeder a
     ∷ []
 feed_lines program (Seal number) = []
 
--- the block of query k with these rows and so many evaluations
+-- the block of query k with these rows, after so many evaluations
 abbrev pub block_of : Program → ℕ → List PublishedRows → ℕ → List (List ℕ)
 block_of program k rows evaluations =
     query_line k (left program.plan k) (right program.plan k) evaluations ∷ row_lines program
@@ -29,9 +35,45 @@ totals_line queries spans points evaluations =
     ++ decimal points
     ++ codes " evaluations " ++ decimal evaluations
 
--- the three last lines where these rows are all that is published, after so many evaluations
-abbrev pub end_of : List Entry → ℕ → List PublishedRows → ℕ → List (List ℕ)
-end_of history ignored rows evaluations =
+-- the rows of a publication, as they are printed
+abbrev pub rows_in : Parts → List PublishedRows
+rows_in parts = map published parts.rows
+
+-- the block of a publication
+abbrev pub block_in : Parts → List (List ℕ)
+block_in parts = block_of parts.program parts.number (rows_in parts) parts.evaluations
+
+-- the spans and the points of a publication
+abbrev pub spans_in : Parts → ℕ
+spans_in parts = sum_by span_count (rows_in parts)
+
+abbrev pub points_in : Parts → ℕ
+points_in parts = sum_by point_count (rows_in parts)
+
+-- the three last lines where these are the publications
+abbrev pub end_of : List Entry → ℕ → List Parts → List (List ℕ)
+end_of history ignored list =
     (codes "ignored " ++ decimal ignored) ∷ entries_line history
-    ∷ totals_line (seals history) (sum_by span_count rows) (sum_by point_count rows) evaluations
+    ∷ totals_line (length list) (sum_by spans_in list) (sum_by points_in list)
+    (sum_by (λ parts. parts.evaluations) list)
     ∷ []
+
+-- for each seal of the history, in order, the rows that are published and the count of evaluations
+pub record AreOf (program : Program) (history : List Entry) (list : List Parts) : Type 0 where
+  pub rows : map rows_in list ≡ map (λ k. (publication program history k).rows)
+      (range_with_len 0 (seals history))
+  pub evaluations : map (λ parts. parts.evaluations) list ≡ map (evaluations program history)
+      (range_with_len 0 (seals history))
+
+-- (a fluent has at most 64 values, which has to be known where spans are counted)
+abbrev pub has_few_values : Name → Bool
+has_few_values name = nat_le (length name.values) 64
+
+-- a sound program, over which the spans and the points of publications are counted in 128 bits
+pub record IsCounted (program : Program) : Type 0 where
+  pub sound : IsSound program
+  pub values_few : list_all has_few_values program.names ≡ true
+
+-- publications of such programs
+abbrev pub AreCounted : List Parts → Type 0
+AreCounted list = All (λ (parts : Parts). IsCounted parts.program) list

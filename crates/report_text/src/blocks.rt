@@ -1,31 +1,31 @@
-// The block of a query. Each `put_` function adds to the end of a text. Where memory runs out, the
-// text keeps what it had, and may have a part of what was to be added behind it.
-ghost use Rattle.std.specs.Prelude.{◌≡◌, ◌≤◌, ◌++◌, ◌∷◌, [], map, OnOk};
-ghost use Rattle.ground_types.specs.Windows.{IsSoundPlan};
-ghost use Rattle.query_ask.specs.Right.{published};
+// The block of a publication.
+ghost use Rattle.std.specs.Prelude.{◌≡◌, ◌++◌, ◌∷◌, [], length, take, OnOk, OnErr};
+ghost use Rattle.ground_types.specs.Sound.{IsSound};
+ghost use Rattle.ground_types.specs.Windows.{left, right};
 ghost use Rattle.text_pieces.specs.Lines.{text_of_lines};
 ghost use Rattle.report_text.specs.Report.{query_line};
-ghost use Rattle.report_text.specs.Printed.{block_of};
+ghost use Rattle.report_text.specs.Printed.{block_in};
 
 use crate::rows::put_rows;
-use delay_revise::Recognised;
-use ground_types::{Point, Program};
+use crate::whole::append;
+use ground_types::Point;
+use query_ask::Publication;
 use rt_base::OutOfMemory;
 use text_pieces::{Piece, put_all};
 
 // Adds the line of a query.
 fn put_query(
-    out: &mut Vec<u8>,
+    text: &mut Vec<u8>,
     k: u32,
     w: Point,
     q: Point,
-    evaluations: u128,
+    evaluations: u64,
 ) -> Result<(), OutOfMemory>
-    ensures { OnOk result (out.new.items ≡ out.old.items ++ text_of_lines
+    ensures { OnOk result (text.new.items ≡ text.old.items ++ text_of_lines
         (query_line k w q evaluations ∷ [])) }
 {
     put_all(
-        out,
+        text,
         &[
             Piece::Text("query "),
             Piece::Number(k as u64),
@@ -34,29 +34,58 @@ fn put_query(
             Piece::Text(","),
             Piece::Number(q),
             Piece::Text("] evaluations "),
-            Piece::Sum(evaluations),
+            Piece::Number(evaluations),
             Piece::Text("\n"),
         ],
     )?;
     Ok(())
 }
 
-/// Adds the block of query k, of which this is recognised. Refused, it leaves a part of it.
-pub fn put_recognised(
-    out: &mut Vec<u8>,
-    program: &Program,
-    k: u32,
-    recognised: &Recognised,
-) -> Result<(), OutOfMemory>
-    requires sound { IsSoundPlan program.now.plan }
-    requires within { k ≤ program.now.plan.queries }
-    ensures { OnOk result (out.new.items
-        ≡ out.old.items
-        ++ text_of_lines (block_of program.now k (map published recognised.now.rows)
-        recognised.now.evaluations)) }
+// Adds the line of a publication's query.
+fn put_front(text: &mut Vec<u8>, publication: &Publication) -> Result<(), OutOfMemory>
+    requires sound { IsSound publication.now.program }
+    ensures { OnOk result (text.new.items ≡ text.old.items ++ text_of_lines
+        (query_line publication.now.number (left publication.now.program.plan
+        publication.now.number) (right publication.now.program.plan publication.now.number)
+        publication.now.evaluations ∷ [])) }
 {
-    let plan = &program.plan;
-    let q = plan.right(k);
-    put_query(out, k, plan.left(k), q, recognised.evaluations)?;
-    put_rows(out, program, q, recognised.rows.as_slice())
+    let k = publication.number();
+    let plan = &publication.program().plan;
+    put_query(
+        text,
+        k,
+        plan.left(k),
+        plan.right(k),
+        publication.evaluations(),
+    )
+}
+
+// Adds a block piece by piece. Refused, it leaves what was there, and may leave a part of the block
+// behind it.
+fn put_pieces(publication: &Publication, out: &mut Vec<u8>) -> Result<(), OutOfMemory>
+    requires sound { IsSound publication.now.program }
+    ensures added { OnOk result (out.new.items ≡ out.old.items ++ text_of_lines
+        (block_in publication.now)) }
+    ensures kept { OnErr result (take (length out.old.items) out.new.items ≡ out.old.items) }
+{
+    let mut text = Vec::new(*out.allocator());
+    put_front(&mut text, publication)?;
+    append(out, text.as_slice())?;
+    put_rows(publication, &mut text, out)
+}
+
+/// Adds the block of a publication: the line of its query, and its rows that are not empty. Its
+/// program has to be sound. `OutOfMemory` leaves the text as it was.
+pub fn put_block(publication: &Publication, out: &mut Vec<u8>) -> Result<(), OutOfMemory>
+    requires sound { IsSound publication.now.program }
+    ensures added { OnOk result (out.new.items ≡ out.old.items ++ text_of_lines
+        (block_in publication.now)) }
+    ensures refused { OnErr result (out.new.items ≡ out.old.items) }
+{
+    let length = out.len();
+    let put = put_pieces(publication, out);
+    if put.is_err() {
+        out.truncate(length);
+    }
+    put
 }

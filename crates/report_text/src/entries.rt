@@ -1,19 +1,32 @@
-// The lines of the adds and revokes of a history. Each `put_` function adds to the end of a text.
-// Where memory runs out, the text keeps what it had, and may have a part of what was to be added
-// behind it.
-ghost use Rattle.std.specs.Prelude.{◌≡◌, true, ◌++◌, flat_map, OnOk};
-ghost use Rattle.std.specs.List.{list_all};
-ghost use Rattle.ground_types.specs.Sound.{IsSound};
-ghost use Rattle.decl_known.specs.Sound.{is_sound_domain};
+// The lines of adds and revokes.
+ghost use Rattle.std.specs.Prelude.{◌≡◌, ◌++◌, OnOk, OnErr};
 ghost use Rattle.text_pieces.specs.Lines.{text_of_lines};
 ghost use Rattle.report_text.specs.Report.{act_word, reply_word, event_atom};
 ghost use Rattle.report_text.specs.Printed.{feed_lines};
 
-use ground_names::event_at;
-use ground_types::{Act, Entry, EventId, Program, Reply};
+use crate::whole::append;
+use ground_names::EventNames;
+use ground_types::{Act, Entry, EventId, Reply};
 use rt_base::OutOfMemory;
 use std::alloc::Global;
 use text_pieces::{Piece, put_all, put_atom};
+
+/// Room in which the line of an entry is made, and which serves for the next one too.
+#[derive(Drop)]
+pub struct EntryLine {
+    text: Vec<u8>,
+    args: Vec<u32>,
+}
+
+impl EntryLine {
+    /// Room for a line. It takes memory only when a line is made.
+    pub fn new(alloc: Global) -> EntryLine {
+        EntryLine {
+            text: Vec::new(alloc),
+            args: Vec::new(alloc),
+        }
+    }
+}
 
 // The word of an act.
 fn act_word(act: Act) -> &'static str
@@ -42,18 +55,18 @@ pub(crate) fn reply_word(reply: Reply) -> &'static str
 
 // Adds the atom of a ground input event, with a list in which its arguments are made.
 fn put_event_atom(
-    alloc: Global,
-    out: &mut Vec<u8>,
-    program: &Program,
+    text: &mut Vec<u8>,
+    names: &EventNames,
     event: EventId,
     args: &mut Vec<u32>,
 ) -> Result<(), OutOfMemory>
-    requires sound { IsSound program.now }
-    requires domains { list_all is_sound_domain program.now.domains ≡ true }
-    ensures { OnOk result (out.new.items ≡ out.old.items ++ event_atom program.now event) }
+    ensures { OnOk result (text.new.items ≡ text.old.items ++ event_atom names.now event) }
 {
-    match event_at(alloc, program, event, args)? {
-        Some(name) => put_atom(out, program.domains.as_slice(), name, args.as_slice()),
+    match names.event_at(event, args)? {
+        Some(name) => {
+            let domains = names.program().domains.as_slice();
+            put_atom(text, domains, name, args.as_slice())
+        }
         None => Ok(()),
     }
 }
@@ -61,16 +74,13 @@ fn put_event_atom(
 // Adds the line of an add or a revoke, and nothing for a seal, with a list in which arguments are
 // made.
 fn put_feed(
-    alloc: Global,
-    out: &mut Vec<u8>,
-    program: &Program,
+    text: &mut Vec<u8>,
+    names: &EventNames,
     entry: Entry,
     args: &mut Vec<u32>,
 ) -> Result<(), OutOfMemory>
-    requires sound { IsSound program.now }
-    requires domains { list_all is_sound_domain program.now.domains ≡ true }
-    ensures { OnOk result (out.new.items ≡ out.old.items ++ text_of_lines
-        (feed_lines program.now entry)) }
+    ensures { OnOk result (text.new.items ≡ text.old.items ++ text_of_lines
+        (feed_lines names.now entry)) }
 {
     let Entry::Fed {
         feeder,
@@ -86,29 +96,28 @@ fn put_feed(
     let act = Piece::Text(act_word(act));
     let reply = Piece::Text(reply_word(reply));
     let space = Piece::Text(" ");
-    put_all(out, &[feeder, space, act, space])?;
-    put_event_atom(alloc, out, program, event, args)?;
+    put_all(text, &[feeder, space, act, space])?;
+    put_event_atom(text, names, event, args)?;
     put_all(
-        out,
+        text,
         &[space, Piece::Number(at), space, reply, Piece::Text("\n")],
     )
 }
 
-/// Adds the lines of the adds and revokes of a history. Refused, it leaves a part of them.
-pub fn put_feeds(
-    alloc: Global,
+/// Adds the line of an add or a revoke, and nothing for a seal, over the names of the events'
+/// program. The name is found by halves, and the line takes no memory where the room has enough.
+/// `OutOfMemory` leaves the text as it was.
+pub fn put_entry(
+    names: &EventNames,
+    line: &mut EntryLine,
+    entry: Entry,
     out: &mut Vec<u8>,
-    program: &Program,
-    history: &[Entry],
 ) -> Result<(), OutOfMemory>
-    requires sound { IsSound program.now }
-    requires domains { list_all is_sound_domain program.now.domains ≡ true }
-    ensures { OnOk result (out.new.items ≡ out.old.items ++ text_of_lines
-        (flat_map (feed_lines program.now) history.now)) }
+    ensures added { OnOk result (out.new.items ≡ out.old.items ++ text_of_lines
+        (feed_lines names.now entry)) }
+    ensures refused { OnErr result (out.new.items ≡ out.old.items) }
 {
-    let mut args = Vec::new(alloc);
-    for entry in history {
-        put_feed(alloc, out, program, *entry, &mut args)?;
-    }
-    Ok(())
+    line.text.clear();
+    put_feed(&mut line.text, names, entry, &mut line.args)?;
+    append(out, line.text.as_slice())
 }

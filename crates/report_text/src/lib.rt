@@ -1,7 +1,8 @@
-//! The text of reports: the lines of entries, the block of a query, and the last three lines. Its
-//! promise: each call that succeeds adds exactly its part of the *report text*; where memory runs out
-//! it may leave a part of that. It stands on `text_pieces` for atoms, on `ground_names` for
-//! the words of events, and on `delay_revise` for what is recognised.
+//! The text of reports: the line of an entry, the block of a publication, and the last three lines.
+//! Its promise: each call that succeeds adds exactly its part of the *report text*, and one that
+//! memory does not suffice for leaves the text as it was; the parts of a list of commands, in
+//! order, are the whole. It stands on `text_pieces` for atoms, on `ground_names` for the words of
+//! events, and on `query_ask` for publications.
 #![tactic(auto)]
 
 mod blocks;
@@ -9,8 +10,12 @@ mod ends;
 mod entries;
 mod laws;
 mod rows;
+mod whole;
 
-pub use blocks::put_recognised;
-pub use ends::put_last_lines;
-pub use entries::put_feeds;
-pub use laws::made_history_is_legal;
+pub use blocks::put_block;
+pub use ends::put_end;
+pub use entries::{EntryLine, put_entry};
+pub use laws::{block_law, commands_law, end_law, made_history_is_legal};
+
+#[cfg(test)]
+mod tests;

@@ -1,16 +1,22 @@
-// The lines of rows. Each `put_` function adds to the end of a text. Where memory runs out, the
-// text keeps what it had, and may have a part of what was to be added behind it.
-ghost use Rattle.std.specs.Prelude.{◌≡◌, ◌++◌, map, flat_map, slice_get, codes, decimal, OnOk};
+// The lines of rows. Each `put_` function adds to the end of a text. Where memory runs out, it may
+// leave a part of what was to be added.
+ghost use Rattle.std.specs.Prelude.{◌≡◌, ◌++◌, map, flat_map, slice_get, codes, decimal};
+ghost use Rattle.std.specs.Prelude.{length, take, OnOk, OnErr};
 ghost use Rattle.ground_types.specs.Publication.{fluent_rows};
-ghost use Rattle.simple_fluent.specs.Rows.{pairs};
+ghost use Rattle.ground_types.specs.Sound.{IsSound};
+ghost use Rattle.ground_types.specs.Windows.{right};
+ghost use Rattle.span_algebra.specs.Normal.{pairs};
 ghost use Rattle.query_ask.specs.Right.{published};
 ghost use Rattle.text_pieces.specs.Lines.{text_of_lines};
 ghost use Rattle.text_pieces.specs.Atoms.{unit_atom};
 ghost use Rattle.report_text.specs.Report.{value_words, span_text, fluent_lines, unit_lines};
 ghost use Rattle.report_text.specs.Report.{row_lines};
 ghost use Rattle.report_text.specs.EventLines.{event_lines};
+ghost use Rattle.report_text.specs.Printed.{rows_in};
 
+use crate::whole::append;
 use ground_types::{Point, Program, Unit, name_of};
+use query_ask::Publication;
 use rt_base::{OutOfMemory, Word};
 use span_algebra::{Span, Spans, UnitRows};
 use text_pieces::{Piece, put_all, put_text, put_unit_atom};
@@ -150,18 +156,26 @@ fn put_unit(
     }
 }
 
-// Adds the lines of the rows that are not empty, unit by unit.
+// Adds the lines of the rows of a publication that are not empty, unit by unit, with a text in
+// which those of one unit are made. Refused, it leaves what was there, and the lines of some units
+// behind it.
 pub(crate) fn put_rows(
+    publication: &Publication,
+    lines: &mut Vec<u8>,
     out: &mut Vec<u8>,
-    program: &Program,
-    q: Point,
-    rows: &[UnitRows],
 ) -> Result<(), OutOfMemory>
-    ensures { OnOk result (out.new.items
-        ≡ out.old.items ++ text_of_lines (row_lines program.now q (map published rows.now))) }
+    requires sound { IsSound publication.now.program }
+    ensures added { OnOk result (out.new.items ≡ out.old.items ++ text_of_lines
+        (row_lines publication.now.program (right publication.now.program.plan
+        publication.now.number) (rows_in publication.now))) }
+    ensures kept { OnErr result (take (length out.old.items) out.new.items ≡ out.old.items) }
 {
-    for (unit, rows) in program.units.as_slice().iter().zip(rows) {
-        put_unit(out, program, q, unit, rows)?;
+    let program = publication.program();
+    let q = program.plan.right(publication.number());
+    for (number, unit) in program.units.as_slice().iter().enumerate() {
+        lines.clear();
+        put_unit(lines, program, q, unit, publication.rows(number as u32))?;
+        append(out, lines.as_slice())?;
     }
     Ok(())
 }

@@ -1,6 +1,6 @@
 use Rattle.std.proofs.Common.{◌≡◌, ◌≤◌, ◌*◌, ◌-◌, ◌^◌, length, take, map}
 use Rattle.std.specs.Prelude.{sum_by}
-use Rattle.simple_fluent.specs.Rows.{pairs}
+use Rattle.span_algebra.specs.Normal.{pairs}
 use Rattle.report_text.proofs.ends.count_spans.Given as goal
 
 abbrev pub invariant-loop-spans : goal.invariant-loop-spans

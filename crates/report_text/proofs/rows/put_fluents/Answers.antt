@@ -3,7 +3,7 @@ use Rattle.std.proofs.Common.{◌∙◌, ap}
 use Rattle.std.specs.Prelude.{flat_map, zip}
 use Rattle.std.proofs.lemmas.List.{length_push}
 use Rattle.std.proofs.lemmas.Slice.Zip.{zip_turn, zip_end}
-use Rattle.simple_fluent.specs.Rows.{pairs}
+use Rattle.span_algebra.specs.Normal.{pairs}
 use Rattle.text_pieces.specs.Atoms.{unit_atom}
 use Rattle.text_pieces.specs.Lines.{text_of_lines}
 use Rattle.report_text.specs.Report.{value_words, fluent_lines}

@@ -1,6 +1,6 @@
 use Rattle.std.proofs.Common.{◌≡◌, ◌++◌, length, take, map, slice_get}
 use Rattle.std.specs.Prelude.{flat_map, zip}
-use Rattle.simple_fluent.specs.Rows.{pairs}
+use Rattle.span_algebra.specs.Normal.{pairs}
 use Rattle.text_pieces.specs.Atoms.{unit_atom}
 use Rattle.text_pieces.specs.Lines.{text_of_lines}
 use Rattle.report_text.specs.Report.{value_words, fluent_lines}

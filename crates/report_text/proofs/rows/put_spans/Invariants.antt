@@ -1,6 +1,6 @@
 use Rattle.std.proofs.Common.{◌≡◌, ◌++◌, take}
 use Rattle.std.specs.Prelude.{flat_map}
-use Rattle.simple_fluent.specs.Rows.{pairs}
+use Rattle.span_algebra.specs.Normal.{pairs}
 use Rattle.report_text.specs.Report.{span_text}
 use Rattle.report_text.proofs.rows.put_spans.Given as goal
 

@@ -1,0 +1,11 @@
+use Rattle.std.proofs.Common.{◌≡◌, ◌≤◌, ◌^◌, take}
+use Rattle.std.specs.Prelude.{sum_by}
+use Rattle.report_text.specs.Report.{span_count}
+use Rattle.report_text.specs.Printed.{rows_in}
+use Rattle.report_text.proofs.ends.spans_in.Given as goal
+
+abbrev pub invariant-loop-unit : goal.invariant-loop-unit
+invariant-loop-unit l = record {
+  value : l.spans ≡ sum_by span_count (take l.unit (rows_in l.publication));
+  few : l.spans ≤ 2 ^ 63;
+}
