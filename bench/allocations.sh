@@ -1,6 +1,6 @@
 #!/usr/bin/env bash
 # Lets each allocation of the built program fail in turn on the bundled sample and on one description more, for each command: it has to end with status
-# 8 and to have written nothing, until there are no more allocations and it ends with status 0.
+# 8 and to have written a beginning of the text, until there are no more allocations and it ends with status 0.
 # Usage: bench/allocations.sh [PROGRAM]; build it first (`rt run` in crates/rtec_main). It needs gcc.
 set -eu
 data=$(realpath "$(dirname "$0")/../crates/rtec_main/data")
@@ -31,14 +31,16 @@ void *realloc(void *old, size_t size) {
 C
 gcc -shared -fPIC -O1 "$folder/failing.c" -o "$folder/failing.so" -ldl
 each_fails() { # the words of a command
+  "$program" "$@" > "$folder/whole"
   for number in $(seq 1 10000); do
     status=0
     FAIL_AT=$number LD_PRELOAD=$folder/failing.so "$program" "$@" > "$folder/text" 2> /dev/null || status=$?
     if [ "$status" -eq 0 ]; then
-      echo "$1: allocations 1 to $((number - 1)) failed in turn: status 8, nothing written"
+      echo "$1: allocations 1 to $((number - 1)) failed in turn: status 8, a beginning written"
       return
     fi
-    if [ "$status" -ne 8 ] || [ -s "$folder/text" ]; then
+    if [ "$1" = ground ] && [ -s "$folder/text" ]; then status=9; fi # (a ground text is written whole or not at all)
+    if [ "$status" -ne 8 ] || ! cmp -s -n "$(stat -c %s "$folder/text")" "$folder/text" "$folder/whole"; then
       echo "$1, allocation $number: status $status, $(stat -c %s "$folder/text") bytes written"
       exit 1
     fi
@@ -71,8 +73,13 @@ add,1,4,down,hall
 add,1,6,blows,hall
 add,1,7,up,hall
 seal
+revoke,2,6,blows,hall
+add,2,8,down,attic
+add,2,23,up,attic
+seal
+seal
 CSV
-each_fails recognise "$data/lamp.rtec" "$data/first_run.csv"
+each_fails recognise "$data/lamp.rtec" "$data/late_run.csv"
 each_fails ground "$data/lamp.rtec"
 each_fails recognise "$folder/rooms.rtec" "$folder/rooms.csv"
 each_fails ground "$folder/rooms.rtec"

@@ -50,7 +50,7 @@ write("units", head + f"domain d [{entities('d', 256)}].\ninput e(d, d).\nsimple
 for name in ["pairs", "units"]:
     show(name, os.path.getsize(name), timed(program, "ground", name), 0)
 
-print("scripts of 1,000,000 records (read to their end, and not run: more than 1,000 adds)")
+print("scripts of 1,000,000 records (read to their end, and not run, for the question at their end)")
 lamp = head + "input up.\ninput down.\nsimple on [true].\ninitiatedAt(on=true) :- happensAt(up).\n"
 fleet = head + f"domain vessel [{entities('v', 200)}].\ndomain area [{entities('a', 5)}].\ninput enters(vessel, area).\ninput leaves(vessel, area).\nsimple within(vessel, area) [true].\ninitiatedAt(within(X, A)=true) :- happensAt(enters(X, A)).\n"
 crowd = head + f"domain d [{entities('d', 4096)}].\ninput e(d).\nsimple on [true].\ninitiatedAt(on=true) :- happensAt(e(X)).\n"
@@ -63,7 +63,7 @@ texts = {
 }
 for name, (description, atom) in texts.items():
     write("desc", description)
-    write("script", "".join(f"add,{random.randint(1, 8)},{random.randint(1, 1000000)},{atom()}\n" for _ in range(count)))
+    write("script", "".join(f"add,{random.randint(1, 8)},{random.randint(1, 1000000)},{atom()}\n" for _ in range(count)) + "ask,count\n")
     took = show(name, os.path.getsize("script"), timed(program, "recognise", "desc", "script"), 10)
     lines = timed("wc", "-l", "script")[0]
     ordered = timed("sort", "script")[0]
@@ -73,16 +73,16 @@ print("large and odd scripts")
 write("desc", lamp)
 cases = [
     ("67,108,865 bytes", 5, b"\n" * 67108865),
-    ("67,108,864 bytes of empty lines", 10, b"\n" * 67108864),
-    ("2,097,152 records", 10, b"seal\n" * 2097152),
+    ("67,108,864 bytes of empty lines", 0, b"\n" * 67108864),
+    ("2,097,152 seals", 5, b"seal\n" * 2097152),
     ("2,097,153 records", 5, b"seal\n" * 2097153),
     ("2,097,153 records, the last bad", 5, b"seal\n" * 2097152 + b"bad\n"),
     ("a record of a million fields", 0, b"add,1,3,up" + b",x" * 1000000 + b"\nseal\n"),
     ("a field of 64 MB", 4, b"x" * 64000000),
-    ("a quote that never closes", 10, b"add,1,3,\"up\nseal\n" + b"add,1,3,up\n" * 1000000),
+    ("a quote that never closes", 0, b"add,1,3,\"up\nseal\n" + b"add,1,3,up\n" * 1000000),
     ("NUL bytes", 4, b"\0" * 1000000),
     ("not UTF-8", 4, bytes(range(128, 256)) * 10000),
-    ("carriage returns alone", 10, b"\r" * 1000000 + b"seal\rseal"),
+    ("carriage returns alone", 5, b"\r" * 1000000 + b"seal\rseal"),
 ]
 for name, wanted, text in cases:
     write("script", text)

@@ -1,5 +1,5 @@
 #!/usr/bin/env bash
-# Times the built program on the longest script that runs, 1,000 adds and one seal: over descriptions of just under
+# Times the built program on scripts of 1,000 adds and one seal: over descriptions of just under
 # 1,048,576 bytes, over 1,000 entities with three layers, over a rule of eight conditions with 100,000 trigger points, and over
 # a static fluent that unites 64 fluents of 500 spans each.
 # Usage: bench/window.sh [PROGRAM]; build it first (`rt run` in crates/rtec_main).

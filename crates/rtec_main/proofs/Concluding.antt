@@ -1,8 +1,7 @@
 -- Where inputs are told and none failed, the answer of a task is what their bytes come to.
 use Rattle.std.proofs.Common.{◌≡◌, ◌⊎◌, inl, inr, ℕ, List, map, Option, Some, None, Result, Ok, Err}
-use Rattle.std.proofs.Common.{refl, sym, ap, ◌∙◌, subst}
-use Rattle.std.specs.Prelude.{IfSome, Vec}
-use Rattle.std.specs.declared.alloc.Global.{Global}
+use Rattle.std.proofs.Common.{refl, sym, ◌∙◌, subst}
+use Rattle.std.specs.Prelude.{IfSome}
 use Rattle.rt_base.specs.Outside.{Rose}
 use Rattle.rule_forms.specs.Forms.{plain}
 use Rattle.decl_known.specs.Checked.{plain_checked}
@@ -14,36 +13,21 @@ use Rattle.run_status.specs.declared.status.Status.{Status}
 use Rattle.run_status.specs.declared.status.Status.TheVariants as status
 use Rattle.ground_types.specs.declared.program.Program.{Program}
 use Rattle.rtec_main.specs.Described.{Described, IsDescribed, Describes, IsProgramOf}
-use Rattle.rtec_main.specs.Script.{commands_of, IsScriptOf}
-use Rattle.rtec_main.specs.Recognised.{IsPlainScript}
+use Rattle.rtec_main.specs.Script.{commands_of, IsScriptOf, DoRun}
 use Rattle.rtec_main.specs.Reads.{IsDescriptionOf, IsSoundDescription, IsWhyNoDescription}
 use Rattle.rtec_main.specs.Reads.{description_status, IsWhyNoScript, script_status}
-use Rattle.rtec_main.specs.Run.{Task, Recognise, Ground, status_of_plain, script_outcome}
+use Rattle.rtec_main.specs.Run.{Task, Recognise, Ground, script_outcome}
 use Rattle.rtec_main.specs.Run.{IsRecogniseOutcome, ground_outcome}
 use Rattle.rtec_main.specs.Tasks.{ConcludesAny}
 use Rattle.rtec_main.proofs.Refusals.{description_outcome, short_outcome, script_outcome_is}
-use Rattle.rtec_main.proofs.PlainScripts.{parts_plain}
-
--- want of memory is no fault of the bytes
-pub none_told : (description script : Option (List ℕ)) (P : List ℕ → List ℕ → Type 0)
-    → ((d s : List ℕ) → P d s) → IfSome description (λ d. IfSome script (λ s. P d s))
-none_told None script P all = tt
-none_told (Some d) None P all = tt
-none_told (Some d) (Some s) P all = all d s
+use Rattle.rtec_main.proofs.Scripts.{run_outcome}
 
 -- a refusal concludes as its status does
-refused_by : (bytes : List ℕ → Option (List ℕ)) (before now : List ℕ → ℕ) (task : Task)
-    (s : Status) (result : Result (Vec ℕ Global) Status) → result ≡ Err s
-    → ConcludesAny bytes before now task (Err s) → ConcludesAny bytes before now task result
-refused_by bytes before now task s result is so =
-    subst (ConcludesAny bytes before now task) (sym is) so
-
-pub spent_report : (bytes : List ℕ → Option (List ℕ)) (before now : List ℕ → ℕ)
-    (name script : List ℕ) (result : Result (Vec ℕ Global) Status)
-    → result ≡ Err status.OutOfMemory → ConcludesAny bytes before now (Recognise name script) result
-spent_report bytes before now name script result is =
-    refused_by bytes before now (Recognise name script) status.OutOfMemory result is
-    (λ taken writes. none_told (bytes name) (bytes script) _ (λ d s well fine. inl refl))
+refused_by : {X : Type 0} (bytes : List ℕ → Option (List ℕ)) (before now : List ℕ → ℕ) (task : Task)
+    (s : Status) (result : Result X Status) → result ≡ Err s
+    → ConcludesAny {X = X} bytes before now task (Err s) → ConcludesAny bytes before now task result
+refused_by {X} bytes before now task s result is so =
+    subst (ConcludesAny {X = X} bytes before now task) (sym is) so
 
 -- ---- a refused description
 
@@ -58,10 +42,11 @@ report_by_bytes (Some d) (Some s) before now Fine refused why =
     λ well fine. description_outcome (λ is t. IsRecogniseOutcome is s t) refl (λ fault. refl)
     (λ which. refl) d before now refused why well
 
-pub refused_report_concludes : (bytes : List ℕ → Option (List ℕ)) (before now : List ℕ → ℕ)
+pub refused_report_concludes : {X : Type 0} (bytes : List ℕ → Option (List ℕ))
+    (before now : List ℕ → ℕ)
     (name script : List ℕ) (refused : DescriptionRefused)
     → IsWhyNoDescription (bytes name) (before name) (now name) refused
-    → (result : Result (Vec ℕ Global) Status) → result ≡ Err (description_status refused)
+    → (result : Result X Status) → result ≡ Err (description_status refused)
     → ConcludesAny bytes before now (Recognise name script) result
 refused_report_concludes bytes before now name script refused why result is =
     refused_by bytes before now (Recognise name script) (description_status refused) result is
@@ -78,10 +63,11 @@ grounding_by_bytes (Some d) before now refused why =
     λ well. description_outcome (λ is t. t ≡ ground_outcome is) refl (λ fault. refl) (λ which.
     refl) d before now refused why well
 
-pub refused_grounding_concludes : (bytes : List ℕ → Option (List ℕ)) (before now : List ℕ → ℕ)
+pub refused_grounding_concludes : {X : Type 0} (bytes : List ℕ → Option (List ℕ))
+    (before now : List ℕ → ℕ)
     (name : List ℕ) (refused : DescriptionRefused)
     → IsWhyNoDescription (bytes name) (before name) (now name) refused
-    → (result : Result (Vec ℕ Global) Status) → result ≡ Err (description_status refused)
+    → (result : Result X Status) → result ≡ Err (description_status refused)
     → ConcludesAny bytes before now (Ground name) result
 refused_grounding_concludes bytes before now name refused why result is =
     refused_by bytes before now (Ground name) (description_status refused) result is
@@ -126,12 +112,13 @@ refused_by_bytes (Some s) before now found sound refused why =
       | inr e ↦ inr (found.program, sound.is_program, e)
     ]
 
-pub refused_script_concludes : (bytes : List ℕ → Option (List ℕ)) (before now : List ℕ → ℕ)
+pub refused_script_concludes : {X : Type 0} (bytes : List ℕ → Option (List ℕ))
+    (before now : List ℕ → ℕ)
     (name script : List ℕ) (found : Description)
     → IsSoundDescription found → IfSome (bytes name) (λ text. IsDescriptionOf text found)
     → (refused : ScriptRefused)
     → IsWhyNoScript (bytes script) (before script) (now script) found.program refused
-    → (result : Result (Vec ℕ Global) Status) → result ≡ Err (script_status refused)
+    → (result : Result X Status) → result ≡ Err (script_status refused)
     → ConcludesAny bytes before now (Recognise name script) result
 refused_script_concludes bytes before now name script found sound described refused why result is =
     refused_by bytes before now (Recognise name script) (script_status refused) result is
@@ -142,30 +129,30 @@ refused_script_concludes bytes before now name script found sound described refu
 given_by_bytes : (script : Option (List ℕ)) (Well : Type 0) (found : Description)
     → IsSoundDescription found → (given : Script)
     → IfSome script (λ text. IsScriptOf found.program text given)
-    → IsPlainScript (commands_of given.commands)
+    → DoRun found.program.plan (commands_of given.commands)
     → IfSome script (λ s. Well → (status.Done ≡ status.OutOfMemory)
     ⊎ ((program : Program) × IsProgramOf (plain_checked found.checked) found.layers.of_name
     program × (status.Done ≡ script_outcome program s)))
-given_by_bytes None Well found sound given is parts = tt
-given_by_bytes (Some s) Well found sound given is parts =
+given_by_bytes None Well found sound given is run = tt
+given_by_bytes (Some s) Well found sound given is run =
     λ well. inr (
       found.program,
       sound.is_program,
       sym (short_outcome found.program s (Ok given) is.short is.is
-          ∙ ap status_of_plain (parts_plain (commands_of given.commands) parts)),
+          ∙ run_outcome found.program.plan (commands_of given.commands) run),
     )
 
-pub report_concludes : (bytes : List ℕ → Option (List ℕ)) (before now : List ℕ → ℕ)
+pub report_concludes : {X : Type 0} (bytes : List ℕ → Option (List ℕ)) (before now : List ℕ → ℕ)
     (name script : List ℕ) (found : Description)
     → IsSoundDescription found → IfSome (bytes name) (λ text. IsDescriptionOf text found)
     → (given : Script) → IfSome (bytes script) (λ text. IsScriptOf found.program text given)
-    → IsPlainScript (commands_of given.commands) → (text : Vec ℕ Global)
+    → DoRun found.program.plan (commands_of given.commands) → (text : X)
     → ConcludesAny bytes before now (Recognise name script) (Ok text)
-report_concludes bytes before now name script found sound is given scripted parts text =
+report_concludes bytes before now name script found sound is given scripted run text =
     λ taken writes. taken_by_bytes (bytes name) (bytes script) found status.Done
     (Rose (before name) (now name) → ⊥) (Rose (before script) (now script) → ⊥) is
     (given_by_bytes (bytes script) (Rose (before script) (now script) → ⊥) found sound given
-    scripted parts)
+    scripted run)
 
 grounding_taken : (description : Option (List ℕ)) (Well : Type 0) (found : Description)
     → IfSome description (λ d. IsDescriptionOf d found)
@@ -180,9 +167,9 @@ grounding_taken (Some d) Well found is =
       refl,
     )
 
-pub grounding_concludes : (bytes : List ℕ → Option (List ℕ)) (before now : List ℕ → ℕ)
+pub grounding_concludes : {X : Type 0} (bytes : List ℕ → Option (List ℕ)) (before now : List ℕ → ℕ)
     (name : List ℕ) (found : Description)
-    → IfSome (bytes name) (λ text. IsDescriptionOf text found) → (text : Vec ℕ Global)
+    → IfSome (bytes name) (λ text. IsDescriptionOf text found) → (text : X)
     → ConcludesAny bytes before now (Ground name) (Ok text)
 grounding_concludes bytes before now name found is text =
     λ taken writes. grounding_taken (bytes name) (Rose (before name) (now name) → ⊥) found is

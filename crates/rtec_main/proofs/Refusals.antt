@@ -18,11 +18,12 @@ use Rattle.run_status.specs.declared.status.DescFault.{DescFault}
 use Rattle.run_status.specs.declared.status.Status.{Status}
 use Rattle.run_status.specs.declared.status.Status.TheVariants as status
 use Rattle.rtec_main.specs.Described.{Described, IsDescribed, TooLong, Faulty, Exceeds}
-use Rattle.rtec_main.specs.Script.{longest, merged, IsScriptOf}
+use Rattle.rtec_main.specs.Script.{longest, merged, IsScriptOf, commands_of, HasCommands}
 use Rattle.rtec_main.specs.Reads.{IsWhyNoDescription, description_status, IsWhyNoScript}
-use Rattle.rtec_main.specs.Reads.{script_status}
-use Rattle.rtec_main.specs.Run.{World, Runs, RefusesScript as SaysScript, status_of_plain}
+use Rattle.rtec_main.specs.Reads.{script_status, DoNotRun}
+use Rattle.rtec_main.specs.Run.{World, Runs, RefusesScript as SaysScript}
 use Rattle.rtec_main.specs.Run.{of_merged, script_outcome}
+use Rattle.rtec_main.proofs.Scripts.{not_run_outcome}
 
 -- ---- the status of a refusal says why
 
@@ -38,7 +39,11 @@ script_says old new described name program runs (script.BadRecord number) why =
     inr (record { program = program; runs = runs; is_script = why })
 script_says old new described name program runs script.TooMany why =
     inr (record { program = program; runs = runs; is_script = why })
-script_says old new described name program runs script.NotPlain why =
+script_says old new described name program runs script.Asks why =
+    inr (record { program = program; runs = runs; is_script = why })
+script_says old new described name program runs script.Seals why =
+    inr (record { program = program; runs = runs; is_script = why })
+script_says old new described name program runs script.Occurrences why =
     inr (record { program = program; runs = runs; is_script = why })
 script_says old new described name program runs script.OutOfMemory why = inl refl
 
@@ -95,10 +100,19 @@ is_shorter n few = grind (arith, nat_tests)
 -- what a script comes to that is not too long
 pub short_outcome : (program : Program) (text : List ℕ) (given : Result Script StreamRefused)
     → length text ≤ longest → merged program text ≡ given
-    → script_outcome program text ≡ of_merged given
+    → script_outcome program text ≡ of_merged program.plan given
 short_outcome program text given short is =
-    ap (λ b. if b then status.TooLarge limit.Script else of_merged (merged program text))
-    (is_shorter (length text) short) ∙ ap of_merged is
+    ap (λ b. if b then status.TooLarge limit.Script
+    else of_merged program.plan (merged program text))
+    (is_shorter (length text) short) ∙ ap (of_merged program.plan) is
+
+-- what a script comes to whose commands do not run
+commands_outcome_is : (program : Program) (text : List ℕ) (refused : ScriptRefused)
+    → HasCommands program text (λ commands. DoNotRun program.plan commands refused)
+    → script_outcome program text ≡ script_status refused
+commands_outcome_is program text refused (given, is, why) =
+    short_outcome program text (Ok given) is.short is.is
+    ∙ not_run_outcome program.plan (commands_of given.commands) refused why
 
 -- what a script comes to, where it is refused
 pub script_outcome_is : (program : Program) (text : List ℕ) (before now : ℕ)
@@ -108,14 +122,17 @@ pub script_outcome_is : (program : Program) (text : List ℕ) (before now : ℕ)
     ⊎ (script_status refused ≡ script_outcome program text)
 script_outcome_is program text before now script.Fault why well = absurd (well why)
 script_outcome_is program text before now script.TooLong why well =
-    inr (sym (ap (λ b. if b then status.TooLarge limit.Script else of_merged (merged program text))
+    inr (sym (ap (λ b. if b then status.TooLarge limit.Script
+    else of_merged program.plan (merged program text))
     (is_longer (length text) why)))
 script_outcome_is program text before now (script.BadRecord number) why well =
     inr (sym (short_outcome program text _ why.0 why.1))
 script_outcome_is program text before now script.TooMany why well =
     inr (sym (short_outcome program text _ why.0 why.1))
-script_outcome_is program text before now script.NotPlain why well =
-    let given = why.1 in
-    inr (sym (short_outcome program text (Ok given.0) why.0 given.1 ∙ ap (λ b. status_of_plain b)
-    given.2))
+script_outcome_is program text before now script.Asks why well =
+    inr (sym (commands_outcome_is program text script.Asks why))
+script_outcome_is program text before now script.Seals why well =
+    inr (sym (commands_outcome_is program text script.Seals why))
+script_outcome_is program text before now script.Occurrences why well =
+    inr (sym (commands_outcome_is program text script.Occurrences why))
 script_outcome_is program text before now script.OutOfMemory why well = inl refl

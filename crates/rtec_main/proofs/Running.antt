@@ -1,7 +1,7 @@
 -- What the answer of a task says of a run.
 use Rattle.std.proofs.Common.{◌≡◌, inl, inr, ℕ, List, map, Option, Result, Err, sym, subst}
-use Rattle.std.specs.Prelude.{IfSome, Vec}
-use Rattle.std.specs.declared.alloc.Global.{Global}
+use Rattle.std.specs.Prelude.{IfSome}
+use Rattle.rtec_main.specs.declared.job.Job.{Job}
 use Rattle.std.proofs.lemmas.Option.{IfSome_then}
 use Rattle.rule_forms.specs.Forms.{plain}
 use Rattle.decl_known.specs.Checked.{plain_checked}
@@ -10,15 +10,13 @@ use Rattle.rtec_main.specs.declared.inputs.Description.{Description}
 use Rattle.rtec_main.specs.declared.script.ScriptRefused.{ScriptRefused}
 use Rattle.run_status.specs.declared.status.Status.{Status}
 use Rattle.rtec_main.specs.Described.{IsDescribed, Describes}
-use Rattle.rtec_main.specs.Script.{commands_of, IsScriptOf}
-use Rattle.rtec_main.specs.Recognised.{IsPlainScript}
+use Rattle.rtec_main.specs.Script.{commands_of, IsScriptOf, DoRun}
 use Rattle.report_text.specs.Report.{report_text}
 use Rattle.ground_text.specs.GroundText.{ground_text}
 use Rattle.rtec_main.specs.Reads.{IsDescriptionOf, IsSoundDescription, IsWhyNoScript, script_status}
 use Rattle.rtec_main.specs.Run.{World, Recognise, Runs, IsReport, IsGrounding}
-use Rattle.rtec_main.specs.Tasks.{world_of, Gives, Answers}
+use Rattle.rtec_main.specs.Tasks.{world_of, report_by, Gives, Answers}
 use Rattle.rtec_main.proofs.Refusals.{script_says}
-use Rattle.rtec_main.proofs.PlainScripts.{parts_plain}
 
 -- ---- the answers of `report_of` and `grounding_of`
 
@@ -45,7 +43,7 @@ refused_script_gives : (old new : World) (name script : List ℕ) (found : Descr
     → IsSoundDescription found → IfSome (old.bytes name) (λ text. IsDescriptionOf text found)
     → (refused : ScriptRefused)
     → IsWhyNoScript (old.bytes script) (old.faults script) (new.faults script) found.program refused
-    → Gives old new (Recognise name script) (Err (script_status refused))
+    → Gives report_by old new (Recognise name script) (Err (script_status refused))
 refused_script_gives old new name script found sound is refused why =
     elim (script_says old new name script found.program (runs_by old name found sound is) refused
     why) [ inl e ↦ inl e | inr says ↦ inr (inr says) ]
@@ -55,10 +53,10 @@ pub refused_script : (bytes : List ℕ → Option (List ℕ)) (before now : List
     → IsSoundDescription found → IfSome (bytes name) (λ text. IsDescriptionOf text found)
     → (refused : ScriptRefused)
     → IsWhyNoScript (bytes script) (before script) (now script) found.program refused
-    → (result : Result (Vec ℕ Global) Status) → result ≡ Err (script_status refused)
-    → Answers bytes before now (Recognise name script) result
+    → (result : Result Job Status) → result ≡ Err (script_status refused)
+    → Answers report_by bytes before now (Recognise name script) result
 refused_script bytes before now name script found sound described refused why result is =
-    subst (Answers bytes before now (Recognise name script)) (sym is)
+    subst (Answers report_by bytes before now (Recognise name script)) (sym is)
     (λ taken writes. refused_script_gives (world_of bytes before taken writes)
     (world_of bytes now taken writes) name script found sound described refused why)
 
@@ -66,15 +64,15 @@ refused_script bytes before now name script found sound described refused why re
 pub report_given : (old : World) (name script : List ℕ) (found : Description)
     → IsSoundDescription found → IfSome (old.bytes name) (λ text. IsDescriptionOf text found)
     → (given : Script) → IfSome (old.bytes script) (λ text. IsScriptOf found.program text given)
-    → IsPlainScript (commands_of given.commands)
+    → DoRun found.program.plan (commands_of given.commands)
     → (text : List ℕ) → text ≡ report_text found.program (commands_of given.commands) given.ignored
     → IsReport old name script text
-report_given old name script found sound is given scripted parts text e = record {
+report_given old name script found sound is given scripted run text e = record {
   program = found.program;
   script = given;
   runs = runs_by old name found sound is;
   is_script = scripted;
-  is_plain = parts_plain (commands_of given.commands) parts;
+  do_run = run;
   is = e;
 }
 

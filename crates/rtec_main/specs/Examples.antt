@@ -1,7 +1,7 @@
 -- No contract speaks by this: the first run, from its two texts to its report. Each equation holds
 -- by computation alone.
 use Rattle.std.specs.Fmt.{digits}
-use Rattle.std.specs.Prelude.{◌≡◌, ℕ, true, false, List, [], ◌∷◌, codes, refl}
+use Rattle.std.specs.Prelude.{◌≡◌, ℕ, true, List, [], ◌∷◌, codes, refl}
 use Rattle.ground_types.specs.Examples.{lamp}
 use Rattle.ground_types.specs.declared.entries.Act.TheVariants.{Add}
 use Rattle.ground_types.specs.declared.entries.Command.{Command}
@@ -17,7 +17,7 @@ use Rattle.rule_read.specs.Reading.{atom_at, fv_at, event_at, condition_at, uneq
 use Rattle.rule_read.specs.Reading.{number_at, valued_at, conditions_at, rule_at, form_at, form_of}
 use Rattle.rule_read.specs.Whole.{forms_of}
 use Rattle.run_status.specs.declared.status.DescFault.TheVariants as fault
-use Rattle.rtec_main.specs.Script.{is_plain}
+use Rattle.rtec_main.specs.Script.{DoRun, exceeds_seals, windows_of_event}
 use Rattle.text_pieces.specs.Lines.{text_of_lines}
 use Rattle.report_text.specs.Report.{report_text}
 
@@ -56,8 +56,8 @@ lamp_without_plan = (
 abbrev first_commands : List Command
 first_commands = Feed 1 Add 0 3 ∷ Feed 1 Add 1 7 ∷ Feed 1 Add 0 9 ∷ Seal ∷ []
 
-it_is_plain : is_plain first_commands ≡ true
-it_is_plain = refl
+they_run : DoRun lamp.plan first_commands
+they_run = record { asks_none = refl; seals_few = refl; occurrences_few = refl }
 
 first_report : report_text lamp first_commands 0
     ≡ text_of_lines
@@ -79,9 +79,10 @@ empty_report : report_text lamp (Seal ∷ []) 0
 unfolding digits
 empty_report = refl
 
--- a script has its seal, and only one, at its end
-no_seal : is_plain [] ≡ false
-no_seal = refl
+-- no query is sealed twice
+too_many_seals : exceeds_seals (record lamp.plan { queries = 1 }) (Seal ∷ Seal ∷ []) ≡ true
+too_many_seals = refl
 
-two_seals : is_plain (Seal ∷ Seal ∷ []) ≡ false
-two_seals = refl
+-- an event lies in two of the windows
+two_windows : windows_of_event lamp.plan ≡ 2
+two_windows = refl

@@ -1,7 +1,7 @@
 pub mod Described
-pub mod Programs
 pub mod Script
-pub mod Recognised
+pub mod Writes
+pub mod Coursing
 pub mod Run
 pub mod Tasks
 pub mod Reads

@@ -7,6 +7,8 @@ use Rattle.rt_base.specs.Outside.{Rose}
 use Rattle.rt_base.specs.declared.limit.Limit.{Limit}
 use Rattle.rt_base.specs.declared.limit.Limit.TheVariants as limit
 use Rattle.ground_types.specs.Sound.{IsSound}
+use Rattle.ground_types.specs.declared.entries.Command.{Command}
+use Rattle.ground_types.specs.declared.plan.Plan.{Plan}
 use Rattle.ground_types.specs.declared.program.Program.{Program}
 use Rattle.rule_forms.specs.Forms.{plain}
 use Rattle.rule_forms.specs.Sound.{IsSound as IsSoundSyntax}
@@ -21,12 +23,12 @@ use Rattle.strata_check.specs.declared.layering.StrataRefused.TheVariants as str
 use Rattle.ground_rules.specs.Limits.{exceeded}
 use Rattle.ground_rules.specs.declared.refused.GroundRefused.{GroundRefused}
 use Rattle.ground_rules.specs.declared.refused.GroundRefused.TheVariants as grounding
-use Rattle.stream_read.specs.declared.script.Script.{Script}
 use Rattle.stream_read.specs.declared.script.StreamRefused.{StreamRefused}
 use Rattle.stream_read.specs.declared.script.StreamRefused.TheVariants as stream
 use Rattle.rtec_main.specs.Described.{IsDescribed, TooLong as TooLongText, Faulty, Exceeds}
 use Rattle.rtec_main.specs.Described.{Describes, IsProgramOf}
-use Rattle.rtec_main.specs.Script.{longest, merged, commands_of, is_plain}
+use Rattle.rtec_main.specs.Script.{longest, merged, HasCommands, has_ask, exceeds_seals}
+use Rattle.rtec_main.specs.Script.{exceeds_occurrences}
 use Rattle.rtec_main.specs.declared.reads.Unread.{Unread}
 use Rattle.rtec_main.specs.declared.reads.Unread.TheVariants.{Fault, TooLong, OutOfMemory}
 use Rattle.rtec_main.specs.declared.inputs.Description.{Description}
@@ -145,6 +147,15 @@ ungrounded grounding.OutOfMemory = description.OutOfMemory
 
 -- ---- a script
 
+-- why commands do not run: the first test that they fail
+abbrev pub DoNotRun : Plan → List Command → ScriptRefused → Type 0
+DoNotRun plan commands script.Asks = has_ask commands ≡ true
+DoNotRun plan commands script.Seals = (has_ask commands ≡ false)
+    × (exceeds_seals plan commands ≡ true)
+DoNotRun plan commands script.Occurrences = (has_ask commands ≡ false)
+    × (exceeds_seals plan commands ≡ false) × (exceeds_occurrences plan commands ≡ true)
+DoNotRun plan commands other = ⊥
+
 -- why bytes are not a script that runs
 abbrev pub IsScriptRefused : Program → List ℕ → ScriptRefused → Type 0
 IsScriptRefused program text script.Fault = ⊥
@@ -153,9 +164,12 @@ IsScriptRefused program text (script.BadRecord number) = (length text ≤ longes
     × (merged program text ≡ Err (stream.BadRecord number))
 IsScriptRefused program text script.TooMany = (length text ≤ longest)
     × (merged program text ≡ Err stream.TooMany)
-IsScriptRefused program text script.NotPlain =
-    (length text ≤ longest) × ((given : Script) × (merged program text ≡ Ok given)
-    × (is_plain (commands_of given.commands) ≡ false))
+IsScriptRefused program text script.Asks = HasCommands program text
+    (λ commands. DoNotRun program.plan commands script.Asks)
+IsScriptRefused program text script.Seals = HasCommands program text
+    (λ commands. DoNotRun program.plan commands script.Seals)
+IsScriptRefused program text script.Occurrences = HasCommands program text
+    (λ commands. DoNotRun program.plan commands script.Occurrences)
 IsScriptRefused program text script.OutOfMemory = Unit {0}
 
 -- Why a script was not taken.
@@ -170,7 +184,9 @@ script_status script.Fault = status.ReadFault 1
 script_status script.TooLong = status.TooLarge limit.Script
 script_status (script.BadRecord number) = status.BadScript 1 number script_fault.BadRecord
 script_status script.TooMany = status.TooLarge limit.Commands
-script_status script.NotPlain = status.NotBuilt 1
+script_status script.Asks = status.NotBuilt 1
+script_status script.Seals = status.TooLarge limit.Seals
+script_status script.Occurrences = status.TooLarge limit.Occurrences
 script_status script.OutOfMemory = status.OutOfMemory
 
 -- which refusal the answer of each call comes to that reads a script

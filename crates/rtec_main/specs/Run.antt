@@ -13,7 +13,10 @@ use Rattle.stream_read.specs.declared.script.StreamRefused.{StreamRefused}
 use Rattle.stream_read.specs.declared.script.StreamRefused.TheVariants as refused
 use Rattle.rtec_main.specs.Described.{Described, IsDescribed, TooLong, Faulty, Exceeds, Describes}
 use Rattle.rtec_main.specs.Described.{IsProgramOf}
-use Rattle.rtec_main.specs.Script.{longest, merged, IsScriptOf, commands_of, is_plain}
+use Rattle.ground_types.specs.declared.entries.Command.{Command}
+use Rattle.ground_types.specs.declared.plan.Plan.{Plan}
+use Rattle.rtec_main.specs.Script.{longest, merged, IsScriptOf, commands_of, HasCommands, has_ask}
+use Rattle.rtec_main.specs.Script.{exceeds_seals, exceeds_occurrences, DoRun}
 use Rattle.report_text.specs.Report.{report_text}
 use Rattle.ground_text.specs.GroundText.{ground_text}
 use Rattle.run_status.specs.declared.status.ScriptFault.TheVariants as fault
@@ -72,7 +75,7 @@ pub record IsReport (world : World) (description script_name text : List ℕ) : 
   pub script : Script
   pub runs : Runs world description program
   pub is_script : IsScript world script_name program script
-  pub is_plain : is_plain (commands_of script.commands) ≡ true
+  pub do_run : DoRun program.plan (commands_of script.commands)
   pub is : text ≡ report_text program (commands_of script.commands) script.ignored
 
 -- the text is the ground text of the file
@@ -137,7 +140,8 @@ pub record Meets (world : World) (description script : List ℕ) (P : Program �
   pub runs : Runs world description program
   pub is_script : Told world script (P program)
 
--- what a status says that refuses the script, which is input 1
+-- What a status says that refuses the script, which is input 1. Its length and its records are
+-- tested before its asks, its seals and its occurrences.
 abbrev pub RefusesScript : World → World → List ℕ → List ℕ → Status → Type 0
 RefusesScript old new description script (status.ReadFault (suc zero)) =
     Rose (old.faults script) (new.faults script)
@@ -151,9 +155,15 @@ RefusesScript old new description script (status.TooLarge limit.Commands) =
     Meets old description script (λ program text. (length text ≤ longest)
     × (merged program text ≡ Err refused.TooMany))
 RefusesScript old new description script (status.NotBuilt (suc zero)) =
-    Meets old description script
-    (λ program text. (length text ≤ longest) × ((given : Script) × (merged program text ≡ Ok given)
-    × (is_plain (commands_of given.commands) ≡ false)))
+    Meets old description script (λ program text. HasCommands program text
+    (λ commands. has_ask commands ≡ true))
+RefusesScript old new description script (status.TooLarge limit.Seals) =
+    Meets old description script (λ program text. HasCommands program text
+    (λ commands. (has_ask commands ≡ false) × (exceeds_seals program.plan commands ≡ true)))
+RefusesScript old new description script (status.TooLarge limit.Occurrences) =
+    Meets old description script (λ program text. HasCommands program text
+    (λ commands. (has_ask commands ≡ false) × (exceeds_seals program.plan commands ≡ false)
+    × (exceeds_occurrences program.plan commands ≡ true)))
 RefusesScript old new description script other = ⊥
 
 -- what a status says that refuses what the task reads. Each case repeats that the tests before it
@@ -163,12 +173,18 @@ Refuses old new (Recognise description script) s = RefusesDescription old new de
     ⊎ RefusesScript old new description script s
 Refuses old new (Ground description) s = RefusesDescription old new description s
 
+-- what want of memory leaves: no write failed, and nothing is written, or a beginning of a report
+abbrev pub Leaves : World → World → Task → Type 0
+Leaves old new (Recognise description script) = WritesNothing old new
+    ⊎ (WritesPart old new (Recognise description script) × (new.write_faults ≡ old.write_faults))
+Leaves old new (Ground description) = WritesNothing old new
+
 -- What a status says, where the words ask for something. Want of memory alone has no cause.
 abbrev pub Means : World → World → Task → Status → Type 0
 Means old new task status.Done = WritesAll old new task
 Means old new task status.WriteFault = Rose old.write_faults new.write_faults
     × WritesPart old new task
-Means old new task status.OutOfMemory = WritesNothing old new
+Means old new task status.OutOfMemory = Leaves old new task
 Means old new task s = Refuses old new task s × WritesNothing old new
 
 -- what a status says: where the words ask for nothing, that they do not, and that nothing else
@@ -183,22 +199,25 @@ MeansOfWords old new (Some task) s = Means old new task s
 abbrev pub ReadWell : World → World → List ℕ → Type 0
 ReadWell old new name = Rose (old.faults name) (new.faults name) → ⊥
 
--- a script that runs or does not
-abbrev pub status_of_plain : Bool → Status
-status_of_plain true = status.Done
-status_of_plain false = status.NotBuilt 1
+-- the status that the commands of a script come to
+abbrev pub commands_outcome : Plan → List Command → Status
+commands_outcome plan commands =
+    if has_ask commands then status.NotBuilt 1
+    else if exceeds_seals plan commands then status.TooLarge limit.Seals
+    else if exceeds_occurrences plan commands then status.TooLarge limit.Occurrences
+    else status.Done
 
 -- (no script comes to want of memory)
-abbrev pub of_merged : Result Script StreamRefused → Status
-of_merged (Ok given) = status_of_plain (is_plain (commands_of given.commands))
-of_merged (Err (refused.BadRecord place)) = status.BadScript 1 place fault.BadRecord
-of_merged (Err refused.TooMany) = status.TooLarge limit.Commands
-of_merged (Err refused.OutOfMemory) = status.OutOfMemory
+abbrev pub of_merged : Plan → Result Script StreamRefused → Status
+of_merged plan (Ok given) = commands_outcome plan (commands_of given.commands)
+of_merged plan (Err (refused.BadRecord place)) = status.BadScript 1 place fault.BadRecord
+of_merged plan (Err refused.TooMany) = status.TooLarge limit.Commands
+of_merged plan (Err refused.OutOfMemory) = status.OutOfMemory
 
 -- the status that the bytes of a script come to
 abbrev pub script_outcome : Program → List ℕ → Status
 script_outcome program text = if nat_lt longest (length text) then status.TooLarge limit.Script
-    else of_merged (merged program text)
+    else of_merged program.plan (merged program text)
 
 -- the status that a description and the bytes of a script come to
 abbrev pub IsRecogniseOutcome : Described → List ℕ → Status → Type 0

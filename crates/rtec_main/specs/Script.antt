@@ -1,11 +1,11 @@
--- Public contracts speak by this: merged scripts, and those that `recognise` runs, of at most 1,000
--- adds and then one seal.
-use Rattle.std.specs.Prelude.{◌≡◌, ◌≤◌, ℕ, ◌-◌, nat_le, Bool, true, false, ◌&&◌, List, length, map}
-use Rattle.std.specs.Prelude.{take, slice_get, Option, Some, Result, Ok}
-use Rattle.std.specs.List.{list_all}
-use Rattle.ground_types.specs.declared.entries.Act.TheVariants.{Add}
+-- Public contracts speak by this: merged scripts, and those that `recognise` runs: they ask
+-- nothing, and are within the limits on seals and occurrences.
+use Rattle.std.specs.Prelude.{◌≡◌, ◌≤◌, ℕ, ◌+◌, ◌-◌, ◌*◌, ◌/◌, min, nat_lt, Bool, true, false, List}
+use Rattle.std.specs.Prelude.{length, map, count_by, Result, Ok}
+use Rattle.std.specs.List.{list_any}
 use Rattle.ground_types.specs.declared.entries.Command.{Command}
-use Rattle.ground_types.specs.declared.entries.Command.TheVariants.{Feed, Seal}
+use Rattle.ground_types.specs.declared.entries.Command.TheVariants.{Feed, Seal, Ask}
+use Rattle.ground_types.specs.declared.plan.Plan.{Plan}
 use Rattle.ground_types.specs.declared.program.Program.{Program}
 use Rattle.stream_read.specs.Scripts.{records_of, script_of}
 use Rattle.stream_read.specs.declared.script.Placed.{Placed}
@@ -29,16 +29,55 @@ pub record IsScriptOf (program : Program) (text : List ℕ) (found : Script) : T
 abbrev pub commands_of : List Placed → List Command
 commands_of placed = map (λ p. p.command) placed
 
-abbrev pub is_add : Command → Bool
-is_add (Feed feeder Add event at) = true
-is_add command = false
+abbrev pub is_ask : Command → Bool
+is_ask (Ask query) = true
+is_ask command = false
 
-abbrev pub is_seal : Option Command → Bool
-is_seal (Some Seal) = true
+abbrev pub is_seal : Command → Bool
+is_seal Seal = true
 is_seal command = false
 
--- at most 1,000 adds, and then one seal
-abbrev pub is_plain : List Command → Bool
-is_plain commands =
-    is_seal (slice_get commands (length commands - 1)) && nat_le (length commands) 1001
-    && list_all is_add (take (length commands - 1) commands)
+-- an add or a revoke
+abbrev pub is_feed : Command → Bool
+is_feed (Feed feeder act event at) = true
+is_feed command = false
+
+abbrev pub has_ask : List Command → Bool
+has_ask commands = list_any is_ask commands
+
+abbrev pub seal_count : List Command → ℕ
+seal_count commands = count_by is_seal commands
+
+abbrev pub feed_count : List Command → ℕ
+feed_count commands = count_by is_feed commands
+
+-- how many entries they make: one for each add, revoke and seal
+abbrev pub entry_count : List Command → ℕ
+entry_count commands = feed_count commands + seal_count commands
+
+-- there are more seals than queries
+abbrev pub exceeds_seals : Plan → List Command → Bool
+exceeds_seals plan commands = nat_lt plan.queries (seal_count commands)
+
+-- in how many windows one event may lie: window / step rounded up, and no more than there are
+-- queries
+abbrev pub windows_of_event : Plan → ℕ
+windows_of_event plan = min plan.queries ((plan.window + plan.step - 1) / plan.step)
+
+-- how often the events of the adds and revokes may lie in a window
+abbrev pub occurrences : Plan → List Command → ℕ
+occurrences plan commands = feed_count commands * windows_of_event plan
+
+abbrev pub exceeds_occurrences : Plan → List Command → Bool
+exceeds_occurrences plan commands = nat_lt 16777216 (occurrences plan commands)
+
+-- the commands run: none asks, and seals and occurrences are within their limits
+pub record DoRun (plan : Plan) (commands : List Command) : Type 0 where
+  pub asks_none : has_ask commands ≡ false
+  pub seals_few : exceeds_seals plan commands ≡ false
+  pub occurrences_few : exceeds_occurrences plan commands ≡ false
+
+-- the text is a merged script that is not too long, and of its commands this is so
+abbrev pub HasCommands : Program → List ℕ → (List Command → Type 0) → Type 0
+HasCommands program text P = (given : Script) × IsScriptOf program text given
+    × P (commands_of given.commands)

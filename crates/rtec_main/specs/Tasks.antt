@@ -1,7 +1,9 @@
 -- For private functions alone: what the code lends of a task, and what the text of a task comes
 -- to before anything is written.
-use Rattle.std.specs.Prelude.{◌≡◌, ◌⊎◌, ℕ, List, Option, Result, Ok, Err, Vec}
-use Rattle.std.specs.declared.alloc.Global.{Global}
+use Rattle.std.specs.Prelude.{◌≡◌, ◌⊎◌, ℕ, List, Option, Result, Ok, Err}
+use Rattle.report_text.specs.Report.{report_text}
+use Rattle.rtec_main.specs.Script.{commands_of}
+use Rattle.rtec_main.specs.declared.job.Job.{Job}
 use Rattle.rtec_main.specs.declared.words.Task.{Task as LentTask}
 use Rattle.rtec_main.specs.declared.words.Task.TheVariants as lent
 use Rattle.run_status.specs.declared.status.Status.{Status}
@@ -21,26 +23,30 @@ world_of bytes faults taken write_faults = record {
   write_faults = write_faults;
 }
 
--- the text that the task asks for, or why there is none
-abbrev pub Gives : World → World → Task → Result (Vec ℕ Global) Status → Type 0
-Gives old new task (Ok text) = IsText old task text.items
-Gives old new task (Err s) = (s ≡ status.OutOfMemory) ⊎ Refuses old new task s
+-- the report that a job asks for
+abbrev pub report_by : Job → List ℕ
+report_by job = report_text job.program (commands_of job.script.commands) job.script.ignored
+
+-- what the text of the task is made of, or why there is none
+abbrev pub Gives : {X : Type 0} → (X → List ℕ) → World → World → Task → Result X Status → Type 0
+Gives text old new task (Ok x) = IsText old task (text x)
+Gives text old new task (Err s) = (s ≡ status.OutOfMemory) ⊎ Refuses old new task s
 
 -- the same, whatever the sink took
-abbrev pub Answers : (List ℕ → Option (List ℕ)) → (List ℕ → ℕ) → (List ℕ → ℕ) → Task
-    → Result (Vec ℕ Global) Status → Type 0
-Answers bytes before now task result =
-    (taken : Option (List ℕ)) (write_faults : ℕ) → Gives (world_of bytes before taken write_faults)
-    (world_of bytes now taken write_faults) task result
+abbrev pub Answers : {X : Type 0} → (X → List ℕ) → (List ℕ → Option (List ℕ)) → (List ℕ → ℕ)
+    → (List ℕ → ℕ) → Task → Result X Status → Type 0
+Answers text bytes before now task result =
+    (taken : Option (List ℕ)) (write_faults : ℕ) → Gives text
+    (world_of bytes before taken write_faults) (world_of bytes now taken write_faults) task result
 
 -- the status of a run that comes to a text, and writes it
-abbrev pub status_of : Result (Vec ℕ Global) Status → Status
-status_of (Ok text) = status.Done
+abbrev pub status_of : {X : Type 0} → Result X Status → Status
+status_of (Ok x) = status.Done
 status_of (Err s) = s
 
 -- the same of what the bytes come to
-abbrev pub ConcludesAny : (List ℕ → Option (List ℕ)) → (List ℕ → ℕ) → (List ℕ → ℕ) → Task
-    → Result (Vec ℕ Global) Status → Type 0
+abbrev pub ConcludesAny : {X : Type 0} → (List ℕ → Option (List ℕ)) → (List ℕ → ℕ) → (List ℕ → ℕ)
+    → Task → Result X Status → Type 0
 ConcludesAny bytes before now task result =
     (taken : Option (List ℕ)) (write_faults : ℕ)
     → Concludes (world_of bytes before taken write_faults)

@@ -1,20 +1,19 @@
 //! `rtec`, a recogniser of composite activities over streams of events, after the Run-Time Event
 //! Calculus. Its promise is the contract of `run`: what is written is the report of a script under
 //! a description, or the ground text of a description, and each other status but want of memory
-//! names its cause. Words, inputs and the joining of a report are private parts. `main`
+//! names its cause. Words, inputs and the course of a run are private parts. `main`
 //! calls `run` with the real inputs, the real standard output and a gate that holds nobody. It
 //! stands on nearly all other crates.
 #![tactic(auto)]
 
-mod admitted;
+mod course;
 mod inputs;
+mod job;
 mod laws;
 mod reads;
-mod recognise;
 mod report;
 mod run;
 mod script;
-mod standing;
 mod words;
 mod writes;
 

@@ -1,11 +1,11 @@
 // The top call.
-ghost use Rattle.std.specs.Prelude.{◌≡◌, ◌≤◌, ℕ, List};
-ghost use Rattle.rtec_main.specs.Run.{Recognise, Ground, MeansOfWords, Completes, task_of};
-ghost use Rattle.rtec_main.specs.Tasks.{task_by, Answers, ConcludesAny};
+ghost use Rattle.std.specs.Prelude.{◌≡◌, ◌≤◌, ℕ, List, Some};
+ghost use Rattle.rtec_main.specs.Run.{Recognise, Ground, Means, MeansOfWords, Completes, task_of};
+ghost use Rattle.rtec_main.specs.Tasks.{world_of, Answers, ConcludesAny};
 
 use crate::inputs::read_description;
-use crate::report::report;
-use crate::script::read_script;
+use crate::job::read_job;
+use crate::report::write_report;
 use crate::words::{Task, task_of};
 use crate::writes::write_all;
 use ground_text::ground_text;
@@ -14,34 +14,14 @@ use run_status::Status;
 use std::alloc::Global;
 use std::thread::Threads;
 
-// The report of a script under a description.
-fn report_of<I: Inputs>(
-    alloc: Global,
-    inputs: &mut I,
-    description: &str,
-    script: &str,
-) -> Result<Vec<u8>, Status>
-    ensures answer { Answers (I.bytes inputs.old) (I.faults inputs.old) (I.faults inputs.new)
-        (Recognise description.now script.now) result }
-    ensures complete { ConcludesAny (I.bytes inputs.old) (I.faults inputs.old)
-        (I.faults inputs.new) (Recognise description.now script.now) result }
-    ensures same { (name : List ℕ) → I.bytes inputs.new name ≡ I.bytes inputs.old name }
-    ensures later { (name : List ℕ) → I.faults inputs.old name ≤ I.faults inputs.new name }
-{
-    let described = read_description(alloc, inputs, description)?;
-    let program = described.into_program();
-    let script = read_script(alloc, inputs, script, &program)?;
-    Ok(report(alloc, &program, &script)?)
-}
-
 // The ground text of a description.
 fn grounding_of<I: Inputs>(
     alloc: Global,
     inputs: &mut I,
     description: &str,
 ) -> Result<Vec<u8>, Status>
-    ensures answer { Answers (I.bytes inputs.old) (I.faults inputs.old) (I.faults inputs.new)
-        (Ground description.now) result }
+    ensures answer { Answers (λ text. text.items) (I.bytes inputs.old) (I.faults inputs.old)
+        (I.faults inputs.new) (Ground description.now) result }
     ensures complete { ConcludesAny (I.bytes inputs.old) (I.faults inputs.old)
         (I.faults inputs.new) (Ground description.now) result }
     ensures same { (name : List ℕ) → I.bytes inputs.new name ≡ I.bytes inputs.old name }
@@ -56,21 +36,71 @@ fn grounding_of<I: Inputs>(
     )?)
 }
 
-// The text that a task asks for, or why there is none.
-fn text_of<I: Inputs>(alloc: Global, inputs: &mut I, task: Task) -> Result<Vec<u8>, Status>
-    ensures answer { Answers (I.bytes inputs.old) (I.faults inputs.old) (I.faults inputs.new)
-        (task_by task.entry) result }
-    ensures complete { ConcludesAny (I.bytes inputs.old) (I.faults inputs.old)
-        (I.faults inputs.new) (task_by task.entry) result }
+// Writes the report of a script under a description.
+fn recognise<R: Threads + Sync, I: Inputs, K: Sink>(
+    rt: &R,
+    alloc: Global,
+    description: &str,
+    script: &str,
+    inputs: &mut I,
+    out: &mut K,
+) -> Status
+    ensures means { Means
+        (world_of (I.bytes inputs.old) (I.faults inputs.old) (K.taken out.old)
+        (K.faults out.old))
+        (world_of (I.bytes inputs.new) (I.faults inputs.new) (K.taken out.new)
+        (K.faults out.new))
+        (Recognise description.now script.now) result }
+    ensures complete { Completes
+        (world_of (I.bytes inputs.old) (I.faults inputs.old) (K.taken out.old)
+        (K.faults out.old))
+        (world_of (I.bytes inputs.new) (I.faults inputs.new) (K.taken out.new)
+        (K.faults out.new))
+        (Some (Recognise description.now script.now)) result }
     ensures same { (name : List ℕ) → I.bytes inputs.new name ≡ I.bytes inputs.old name }
     ensures later { (name : List ℕ) → I.faults inputs.old name ≤ I.faults inputs.new name }
+    ensures later_writes { K.faults out.old ≤ K.faults out.new }
 {
-    match task {
-        Task::Recognise {
-            description,
-            script,
-        } => report_of(alloc, inputs, description, script),
-        Task::Ground { description } => grounding_of(alloc, inputs, description),
+    let job = match read_job(alloc, inputs, description, script) {
+        Ok(job) => job,
+        Err(status) => return status,
+    };
+    match write_report(rt, alloc, job.program, &job.script, out) {
+        Ok(()) => Status::Done,
+        Err(unwritten) => Status::from(unwritten),
+    }
+}
+
+// Writes the ground text of a description.
+fn ground<I: Inputs, K: Sink>(
+    alloc: Global,
+    description: &str,
+    inputs: &mut I,
+    out: &mut K,
+) -> Status
+    ensures means { Means
+        (world_of (I.bytes inputs.old) (I.faults inputs.old) (K.taken out.old)
+        (K.faults out.old))
+        (world_of (I.bytes inputs.new) (I.faults inputs.new) (K.taken out.new)
+        (K.faults out.new))
+        (Ground description.now) result }
+    ensures complete { Completes
+        (world_of (I.bytes inputs.old) (I.faults inputs.old) (K.taken out.old)
+        (K.faults out.old))
+        (world_of (I.bytes inputs.new) (I.faults inputs.new) (K.taken out.new)
+        (K.faults out.new))
+        (Some (Ground description.now)) result }
+    ensures same { (name : List ℕ) → I.bytes inputs.new name ≡ I.bytes inputs.old name }
+    ensures later { (name : List ℕ) → I.faults inputs.old name ≤ I.faults inputs.new name }
+    ensures later_writes { K.faults out.old ≤ K.faults out.new }
+{
+    let text = match grounding_of(alloc, inputs, description) {
+        Ok(text) => text,
+        Err(status) => return status,
+    };
+    match write_all(out, &text) {
+        Ok(()) => Status::Done,
+        Err(Failed) => Status::WriteFault,
     }
 }
 
@@ -82,15 +112,16 @@ fn text_of<I: Inputs>(alloc: Global, inputs: &mut I, task: Task) -> Result<Vec<u
 /// reading the description's statements, checking them or ordering them in layers refuses, with the
 /// fault. TooLarge: a counted quantity exceeds its limit, with the first that does: the bytes of
 /// the description, then units, events, assignments, rules, conditions and cells, then the bytes
-/// and the records of the script. BadScript: a record has no form, with the first. NotBuilt: the
-/// script of `recognise` is not at most 1,000 adds and one seal (input 1); `ground` is never
-/// answered so. ReadFault and WriteFault: the count of faults rose in this call. Each comes only
-/// where what is tested before it passed: the description before the script, and of each its faults
-/// of reading, its length, its content. All but Done and WriteFault write nothing. Want of memory
-/// alone has no cause. `complete` says it the other way round: what the status is where nothing
-/// failed.
+/// and the records of the script, then its seals and its occurrences. BadScript: a record has no
+/// form, with the first. NotBuilt: the script of `recognise` has an ask (input 1), which is tested
+/// before its seals; `ground` is never answered so. ReadFault and WriteFault: the count of faults
+/// rose in this call. Each comes only where what is tested before it passed: the description before
+/// the script, and of each its faults of reading, its length, its content. All but Done, WriteFault
+/// and want of memory write nothing. The report is written as it is made, so after WriteFault and
+/// want of memory the sink has a beginning of it. Want of memory alone has no cause. `complete`
+/// says it the other way round: what the status is where nothing failed.
 pub fn run<R: Threads + Sync, I: Inputs, K: Sink, G: Gate>(
-    _rt: &R,
+    rt: &R,
     alloc: Global,
     words: &[Word],
     inputs: &mut I,
@@ -132,13 +163,12 @@ pub fn run<R: Threads + Sync, I: Inputs, K: Sink, G: Gate>(
     let Some(task) = task_of(words) else {
         return Status::BadWords;
     };
-    let text = match text_of(alloc, inputs, task) {
-        Ok(text) => text,
-        Err(status) => return status,
-    };
-    match write_all(out, &text) {
-        Ok(()) => Status::Done,
-        Err(Failed) => Status::WriteFault,
+    match task {
+        Task::Recognise {
+            description,
+            script,
+        } => recognise(rt, alloc, description, script, inputs, out),
+        Task::Ground { description } => ground(alloc, description, inputs, out),
     }
 }
 

@@ -1,14 +1,16 @@
 // The script: it is read to its end, and it runs or is refused by one answer.
-ghost use Rattle.std.specs.Prelude.{◌≡◌, ◌≤◌, ℕ, List, length, Some, IfOk, IfErr, IfSome};
-ghost use Rattle.std.specs.List.{list_all};
+ghost use Rattle.std.specs.Prelude.{◌≡◌, ◌<◌, ◌≤◌, ◌^◌, ℕ, List, length, OnOk, IfOk, IfErr, IfSome};
 ghost use Rattle.ground_types.specs.Sound.{IsSound};
-ghost use Rattle.rtec_main.specs.Script.{commands_of, is_add, is_seal, is_plain, IsScriptOf};
-ghost use Rattle.rtec_main.specs.Recognised.{IsPlainScript};
-ghost use Rattle.rtec_main.specs.Reads.{IsScriptRefused, IsWhyNoScript};
+ghost use Rattle.ground_types.specs.Windows.{IsSoundPlan};
+ghost use Rattle.rtec_main.specs.Script.{commands_of, is_ask, is_seal, is_feed, has_ask};
+ghost use Rattle.rtec_main.specs.Script.{seal_count};
+ghost use Rattle.rtec_main.specs.Script.{feed_count, entry_count, windows_of_event, exceeds_seals};
+ghost use Rattle.rtec_main.specs.Script.{exceeds_occurrences, DoRun, IsScriptOf};
+ghost use Rattle.rtec_main.specs.Reads.{DoNotRun, IsScriptRefused, IsWhyNoScript};
 ghost use Rattle.stream_read.specs.Scripts.{AreOfProgram};
 
 use crate::reads::{Unread, read_all};
-use ground_types::{Act, Command, Program};
+use ground_types::{Command, Plan, Program};
 use rt_base::{Inputs, Limit};
 use run_status::{ScriptFault, Status};
 use std::alloc::Global;
@@ -17,8 +19,8 @@ use stream_read::{Placed, Script, Shape, StreamRefused, commands};
 // The most bytes of a script.
 const LONGEST_SCRIPT: usize = 67_108_864;
 
-// The most adds of a script that runs.
-const MOST_ADDS: usize = 1000;
+// The most adds and revokes, times the windows that one event may lie in.
+const MOST_OCCURRENCES: u64 = 16_777_216;
 
 /// Why a script is not taken.
 #[derive(Clone, Copy, Debug, PartialEq, Eq)]
@@ -31,8 +33,12 @@ pub enum ScriptRefused {
     BadRecord { number: u32 },
     /// It has more than 2,097,152 records.
     TooMany,
-    /// Its commands are not at most 1,000 adds and then one seal.
-    NotPlain,
+    /// One of its commands is an ask.
+    Asks,
+    /// It has more seals than there are queries.
+    Seals,
+    /// Its adds and revokes, times the windows that one event may lie in, are more than 16,777,216.
+    Occurrences,
     /// Memory ran out.
     OutOfMemory,
 }
@@ -84,59 +90,120 @@ impl From<ScriptRefused> for Status {
             ScriptRefused::TooMany => Status::TooLarge {
                 limit: Limit::Commands,
             },
-            ScriptRefused::NotPlain => Status::NotBuilt { input: 1 },
+            ScriptRefused::Asks => Status::NotBuilt { input: 1 },
+            ScriptRefused::Seals => Status::TooLarge {
+                limit: Limit::Seals,
+            },
+            ScriptRefused::Occurrences => Status::TooLarge {
+                limit: Limit::Occurrences,
+            },
             ScriptRefused::OutOfMemory => Status::OutOfMemory,
         }
     }
 }
 
-// Whether a command is an add.
-fn is_add(placed: &Placed) -> bool
-    ensures { result ≡ is_add placed.now.command }
+// Whether a command is an ask.
+fn is_ask(placed: &Placed) -> bool
+    ensures { result ≡ is_ask placed.now.command }
 {
-    matches!(placed.command, Command::Feed { act: Act::Add, .. })
+    matches!(placed.command, Command::Ask(_))
 }
 
 // Whether a command is a seal.
 fn is_seal(placed: &Placed) -> bool
-    ensures { result ≡ is_seal (Some placed.now.command) }
+    ensures { result ≡ is_seal placed.now.command }
 {
     matches!(placed.command, Command::Seal)
 }
 
-// Whether all commands are adds.
-fn are_adds(placed: &[Placed]) -> bool
-    ensures { result ≡ list_all (λ p. is_add p.command) placed.now }
+// Whether a command is an add or a revoke.
+fn is_feed(placed: &Placed) -> bool
+    ensures { result ≡ is_feed placed.now.command }
 {
-    placed.iter().all(is_add)
+    matches!(placed.command, Command::Feed { .. })
 }
 
-// Whether commands are at most 1,000 adds and then one seal.
-fn is_plain(commands: &[Placed]) -> bool
-    ensures { result ≡ is_plain (commands_of commands.now) }
+// Whether one of the commands is an ask.
+fn has_ask(commands: &[Placed]) -> bool
+    ensures { result ≡ has_ask (commands_of commands.now) }
 {
-    let Some((last, adds)) = commands.split_last() else {
-        return false;
-    };
-    if !is_seal(last) {
-        return false;
+    commands.iter().any(is_ask)
+}
+
+// How many of the commands are seals.
+fn seal_count(commands: &[Placed]) -> usize
+    ensures { result ≡ seal_count (commands_of commands.now) }
+{
+    commands.iter().filter(|placed| is_seal(placed)).count()
+}
+
+// How many of the commands are adds and revokes.
+fn feed_count(commands: &[Placed]) -> usize
+    ensures { result ≡ feed_count (commands_of commands.now) }
+{
+    commands.iter().filter(|placed| is_feed(placed)).count()
+}
+
+/// How many entries commands make: one for each add, revoke and seal.
+pub fn entry_count(commands: &[Placed]) -> u32
+    requires few { entry_count (commands_of commands.now) < 2 ^ 32 }
+    ensures { result ≡ entry_count (commands_of commands.now) }
+{
+    (feed_count(commands) + seal_count(commands)) as u32
+}
+
+// In how many windows one event may lie.
+fn windows_of_event(plan: &Plan) -> u64
+    requires { IsSoundPlan plan.now }
+    ensures { result ≡ windows_of_event plan.now }
+{
+    u64::from(plan.queries).min((plan.window + plan.step - 1) / plan.step)
+}
+
+// Whether there are more seals than queries.
+fn exceeds_seals(plan: &Plan, commands: &[Placed]) -> bool
+    ensures { result ≡ exceeds_seals plan.now (commands_of commands.now) }
+{
+    seal_count(commands) > plan.queries as usize
+}
+
+// Whether the events of adds and revokes may lie in a window too often.
+fn exceeds_occurrences(plan: &Plan, commands: &[Placed]) -> bool
+    requires { IsSoundPlan plan.now }
+    ensures { result ≡ exceeds_occurrences plan.now (commands_of commands.now) }
+{
+    (feed_count(commands) as u64).saturating_mul(windows_of_event(plan)) > MOST_OCCURRENCES
+}
+
+// Whether the commands run, or which test they fail first.
+fn test(plan: &Plan, commands: &[Placed]) -> Result<(), ScriptRefused>
+    requires { IsSoundPlan plan.now }
+    ensures ok { OnOk result (DoRun plan.now (commands_of commands.now)) }
+    ensures err { IfErr result (DoNotRun plan.now (commands_of commands.now)) }
+{
+    if has_ask(commands) {
+        return Err(ScriptRefused::Asks);
     }
-    adds.len() <= MOST_ADDS && are_adds(adds)
+    if exceeds_seals(plan, commands) {
+        return Err(ScriptRefused::Seals);
+    }
+    if exceeds_occurrences(plan, commands) {
+        return Err(ScriptRefused::Occurrences);
+    }
+    Ok(())
 }
 
 // The script of these bytes, where it runs.
 fn script(alloc: Global, program: &Program, text: &[u8]) -> Result<Script, ScriptRefused>
     requires program { IsSound program.now }
     requires few { length text.now ≤ 67108864 }
-    ensures plain { IfOk result (λ script. IsPlainScript (commands_of script.commands)) }
+    ensures do_run { IfOk result (λ script. DoRun program.now.plan (commands_of script.commands)) }
     ensures of_program { IfOk result (λ script. AreOfProgram program.now script.commands) }
     ensures ok { IfOk result (IsScriptOf program.now text.now) }
     ensures err { IfErr result (IsScriptRefused program.now text.now) }
 {
     let script = commands(alloc, text, program, Shape::Merged)?;
-    if !is_plain(script.commands.as_slice()) {
-        return Err(ScriptRefused::NotPlain);
-    }
+    test(&program.plan, script.commands.as_slice())?;
     Ok(script)
 }
 
@@ -148,7 +215,7 @@ pub fn read_script<I: Inputs>(
     program: &Program,
 ) -> Result<Script, ScriptRefused>
     requires program { IsSound program.now }
-    ensures plain { IfOk result (λ script. IsPlainScript (commands_of script.commands)) }
+    ensures do_run { IfOk result (λ script. DoRun program.now.plan (commands_of script.commands)) }
     ensures of_program { IfOk result (λ script. AreOfProgram program.now script.commands) }
     ensures ok { IfOk result (λ script. IfSome (I.bytes inputs.old name.now)
         (λ text. IsScriptOf program.now text script)) }

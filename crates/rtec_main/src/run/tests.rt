@@ -9,6 +9,7 @@ use std::thread::Threads;
 
 mod descriptions;
 mod faults;
+mod histories;
 mod reports;
 mod rows;
 mod scripts;
@@ -79,7 +80,7 @@ fn inputs(alloc: Global, case: Run) -> Result<MemoryInputs, Fail> {
 // The sink of a run.
 fn sink(alloc: Global, case: Run) -> Result<MemorySink, Fail> {
     let failing = Vec::from_slice(alloc, case.failing_writes)?;
-    Ok(MemorySink::new(alloc, case.piece.max(1), 100_000, failing)?)
+    Ok(MemorySink::new(alloc, case.piece.max(1), 400_000, failing)?)
 }
 
 // The number and the fault line of a status, and on the next lines what was written.

@@ -1,14 +1,80 @@
-use Rattle.std.proofs.Common.{arith}
-use Rattle.rtec_main.proofs.Counts.{few_spans, few_points}
+use Rattle.std.proofs.Common.{◌≡◌, ◌++◌, [], map, ap, sym, subst, refl}
+use Rattle.std.specs.Arc.{arc_value}
+use Rattle.std.proofs.lemmas.Result.{on_ok_weaker, on_err_weaker}
+use Rattle.text_pieces.specs.Lines.{text_of_lines}
+use Rattle.report_text.specs.Report.{command_lines, report_text}
+use Rattle.report_text.specs.Printed.{end_of, IsCounted, AreCounted}
+use Rattle.rtec_main.specs.Script.{commands_of}
+use Rattle.rtec_main.specs.Writes.{IsOnWay}
+use Rattle.rtec_main.proofs.Courses.{all_counted}
+use Rattle.rtec_main.proofs.Reports.{cut_report, report_whole}
+use Rattle.rtec_main.proofs.Writing.{way_next, way_whole, cut_next, on_err, on_ok_both}
+use Rattle.rtec_main.proofs.report.put_report.Given.{Over}
+use Rattle.rtec_main.proofs.report.put_report.Goals.{In_ok-put_end}
 use Rattle.rtec_main.proofs.report.put_report.Goals as goal
 
-pub put_last_lines-requires : goal.put_last_lines-requires
-put_last_lines-requires c =
-    let program = c.args.program.now in
-    let history = c.args.history.now in
-    let rows = c.in_ok-recognised.recognised.rows in
-    let are = c.in_ok-recognised.ensures.rows in
+pub returns-in_err-put_commands-clause-err : goal.returns-in_err-put_commands-clause-err
+returns-in_err-put_commands-clause-err g c =
+    on_err c.from_residual.result _
+    (cut_report (g.K.Sink.taken c.args.out.now) (g.K.Sink.taken c.put_commands.new.out)
+    c.args.course.now.names c.as_slice.result.now c.args.script.now.commands
+    c.args.script.now.ignored c.as_slice.ensures c.in_err-put_commands.ensures.err)
+
+pub put_end-requires : goal.put_end-requires
+put_end-requires g c =
+    let done = c.in_ok-put_commands.ensures in
     record {
-      spans = omega (arith, few_spans program history 0 rows c.requires.program are);
-      points = omega (arith, few_points program history 0 rows c.requires.program are);
+      counted = subst (λ list. AreCounted (map arc_value list)) (sym c.as_slice-2.ensures.value)
+          (all_counted c.put_commands.new.course (subst IsCounted (sym done.names)
+          c.requires.counted) done.abreast);
     }
+
+pub returns-in_err-put_end-clause-err : goal.returns-in_err-put_end-clause-err
+returns-in_err-put_end-clause-err g c =
+    on_err c.from_residual-in_err-put_end.result _
+    (cut_report (g.K.Sink.taken c.args.out.now) (g.K.Sink.taken c.put_commands.new.out)
+    c.args.course.now.names c.as_slice.result.now c.args.script.now.commands
+    c.args.script.now.ignored c.as_slice.ensures
+    (c.put_commands.new.text.items, c.in_ok-put_commands.ensures.ok))
+
+-- all parts of the report
+whole : (g : Over) (c : In_ok-put_end g)
+    → text_of_lines (command_lines c.args.course.now.names [] (commands_of c.as_slice.result.now))
+    ++ text_of_lines (end_of c.history-history.result.now c.args.script.now.ignored
+    (map arc_value c.as_slice-2.result.now))
+    ≡ report_text c.args.course.now.names (commands_of c.args.script.now.commands)
+    c.args.script.now.ignored
+whole g c =
+    let done = c.in_ok-put_commands.ensures in
+    report_whole c.put_commands.new.course c.args.course.now.names c.as_slice.result.now
+    c.args.script.now.commands c.args.script.now.ignored c.history-history.result.now
+    (map arc_value c.as_slice-2.result.now) done.abreast done.names c.as_slice.ensures
+    c.history-history.ensures.list done.history (ap (map arc_value) c.as_slice-2.ensures.value)
+
+pub returns-clause-ok : goal.returns-clause-ok
+returns-clause-ok g c =
+    let old = g.K.Sink.taken c.args.out.now in
+    let now = g.K.Sink.taken c.hand_on.new.out in
+    let text = report_text c.args.course.now.names (commands_of c.args.script.now.commands)
+    c.args.script.now.ignored in
+    on_ok_weaker c.hand_on.result
+    (λ both. way_whole old now text (subst (λ left. IsOnWay old now left text) both.1
+    (way_next old (g.K.Sink.taken c.put_commands.new.out) now c.put_commands.new.text.items _
+    c.put_end.new.out.items c.hand_on.new.text.items _ text c.in_ok-put_commands.ensures.ok
+    c.in_ok-put_end.ensures.added both.0
+    (whole g (goal.at.returns-clause-ok g c).In_ok-put_end))))
+    (on_ok_both c.hand_on.result _ _ c.hand_on.ensures.ok (c.hand_on.ensures.all refl))
+
+pub returns-clause-err : goal.returns-clause-err
+returns-clause-err g c =
+    let old = g.K.Sink.taken c.args.out.now in
+    let now = g.K.Sink.taken c.hand_on.new.out in
+    on_err_weaker c.hand_on.result
+    (λ cut. (
+      cut.0,
+      cut_next old (g.K.Sink.taken c.put_commands.new.out) now c.put_commands.new.text.items _
+          c.put_end.new.out.items _ _ c.in_ok-put_commands.ensures.ok
+          c.in_ok-put_end.ensures.added cut
+          (whole g (goal.at.returns-clause-err g c).In_ok-put_end),
+    ))
+    c.hand_on.ensures.err

@@ -1,4 +1,4 @@
-use Rattle.std.proofs.Common.{◌+◌, arith}
+use Rattle.std.proofs.Common.{◌+◌, ◌∙◌}
 use Rattle.rtec_main.proofs.Streams.{written_more, whole_tail}
 use Rattle.rtec_main.proofs.writes.write_all.Goals as goal
 
@@ -10,5 +10,5 @@ write-preserved g c =
         written_more _ _ _ _ _ _ _ c.write.invariant.written.1 c.in_ok-count.ensures.front.within
             c.in_ok-count.ensures.ok _ (whole_tail c.write.rest.now c.in_ok-count.count),
       );
-      later = omega (arith, c.write.invariant.later, c.in_ok-count.ensures.cause.later);
+      none = c.in_ok-count.ensures.none ∙ c.write.invariant.none;
     }

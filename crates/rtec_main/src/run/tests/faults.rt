@@ -124,6 +124,15 @@ fn faults_name_their_cause(rt: HostRuntime) -> Result<(), Fail> {
             },
             FIRST_REPORT,
         ),
+        // What was made is written at each seal.
+        (
+            Run {
+                script: Some("seal\nseal\n"),
+                failing_writes: &[1],
+                ..WELL
+            },
+            "7 output could not be written\nquery 0 window (0,10] evaluations 0\n",
+        ),
         // A sink of one byte a call gets all.
         (
             Run {

@@ -52,17 +52,6 @@ fn reports_are_as_worked_by_hand(rt: HostRuntime) -> Result<(), Fail> {
              unknown 0 forgotten 0\n\
              queries 1 spans 1 points 0 evaluations 2\n",
         ),
-        // An event told twice.
-        (
-            LAMP,
-            "add,1,3,up\nadd,1,7,down\nadd,1,9,up\nadd,1,3,up\nseal\n",
-            "0 \n1 add up 3 admitted\n1 add down 7 admitted\n\
-             1 add up 9 admitted\n1 add up 3 already\n\
-             query 0 window (0,10] evaluations 3\n  on=true (3,7] (9,open)\nignored 0\n\
-             entries 4 admitted 3 delayed 0 already 1 revoked 0 delayed-revoked 0 \
-             unknown 0 forgotten 0\n\
-             queries 1 spans 2 points 0 evaluations 3\n",
-        ),
         // The greatest number that a record may have.
         (
             LAMP,

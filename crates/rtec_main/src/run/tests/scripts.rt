@@ -1,5 +1,5 @@
 // Scripts that are refused, records that are ignored, and the bounds of descriptions and scripts.
-use super::{LAMP, Long, of_changed_run, recognised, written_out};
+use super::{LAMP, Long, changed, of_changed_lamp, of_changed_run, recognised, written_out};
 use std::alloc::Global;
 use std::test::Fail;
 use std::thread::Threads;
@@ -83,21 +83,24 @@ fn the_first_record_without_a_form_is_named(rt: HostRuntime) -> Result<(), Fail>
     Ok(())
 }
 
+// Asks are tested first, then seals.
 #[test]
-fn scripts_that_do_not_run_yet_are_said_so(rt: HostRuntime) -> Result<(), Fail> {
-    for script in [
-        "",
-        "revoke,1,3,up\nadd,1,7,down\nadd,1,9,up\nseal\n",
-        "seal\nadd,1,7,down\nadd,1,9,up\nseal\n",
-        "ask,count\nadd,1,7,down\nadd,1,9,up\nseal\n",
-        "ask,holds,8,true,on\nadd,1,7,down\nadd,1,9,up\nseal\n",
-        "add,1,3,up\nadd,1,7,down\nadd,1,9,up\nseal\nask,block,0\n",
-        "add,1,3,up\nadd,1,7,down\nadd,1,9,up\n",
-        "add,1,3,up\nadd,1,7,down\nadd,1,9,up\nseal\nadd,1,10,up\n",
-        "add,1,3,up\nadd,1,7,down\nadd,1,9,up\nseal\nseal\n",
+fn commands_that_do_not_run_are_said_so(rt: HostRuntime) -> Result<(), Fail> {
+    let asks = "10 input 1 is not built\n";
+    let one_seal = "0 \nquery 0 window (0,10] evaluations 0\nignored 0\n\
+        entries 0 admitted 0 delayed 0 already 0 revoked 0 delayed-revoked 0 unknown 0 forgotten \
+        0\n\
+        queries 1 spans 0 points 0 evaluations 0\n";
+    for (script, wanted) in [
+        ("ask,count\n", asks),
+        ("add,1,3,up\nask,holds,8,true,on\nseal\n", asks),
+        ("add,1,3,up\nseal\nask,block,0\n", asks),
+        ("seal\nseal\nask,count\n", asks),
+        ("seal\nseal\n", "5 too large: seals\n"),
+        ("seal\n", one_seal),
     ] {
-        let found = recognised(&rt, LAMP, script)?;
-        assert_eq!(rt; found.as_str(), "10 input 1 is not built\n", "{script:?}");
+        let found = of_changed_lamp(&rt, "from(0).", "from(0).\nqueries(1).", script)?;
+        assert_eq!(rt; found.as_str(), wanted, "{script:?}");
     }
     Ok(())
 }
@@ -154,13 +157,7 @@ fn the_bounds_are_kept(rt: HostRuntime) -> Result<(), Fail> {
         back: "",
     };
 
-    // Adds before the seal; letters of a name.
-    let adds = Long {
-        front: "add,8,0000000000000004,up\n",
-        piece: "add,8,0000000000000004,up\n",
-        last: 1000,
-        back: "seal\n",
-    };
+    // Letters of a name.
     let letters = Long {
         front: "window(10).\nstep(5).\ninput up.\ninput a",
         piece: "a",
@@ -168,8 +165,7 @@ fn the_bounds_are_kept(rt: HostRuntime) -> Result<(), Fail> {
         back: ".\nsimple on [true].\ninitiatedAt(on=true) :- happensAt(up).\n",
     };
     let rows = [
-        (lamp, adds, "0 "),
-        (lamp, Long { last: 1001, ..adds }, "10 input 1 is not built"),
+        (lamp, seal, "0 "),
         (letters, seal, "0 "),
         (
             Long {
@@ -195,6 +191,34 @@ fn a_description_has_up_to_1_048_576_bytes(rt: HostRuntime) -> Result<(), Fail> 
         let description = format!(in rt.alloc(); "{LAMP}%{spaces}")?;
         let found = recognised(&rt, description.as_str(), "seal\n")?;
         assert_eq!(rt; first_line(found.as_str()), wanted);
+    }
+    Ok(())
+}
+
+// A record so many times, where an event may lie in 1,024 windows, and there are as many queries.
+#[test]
+fn seals_and_occurrences_are_bounded(rt: HostRuntime) -> Result<(), Fail> {
+    let description = changed(
+        rt.alloc(),
+        LAMP,
+        "window(10).\nstep(5).",
+        "window(1024).\nstep(1).",
+    )?;
+    for (records, count, wanted) in [
+        ("add,1,1,up\n", 16_384, "0 "),
+        ("revoke,1,1,up\n", 16_385, "5 too large: occurrences"),
+        ("seal\n", 1024, "0 "),
+        ("add,1,1,up\nseal\n", 1025, "5 too large: seals"),
+        ("add,1,1,up\nseal\n", 16_385, "5 too large: seals"),
+        ("add,1,1,up\nask,count\n", 16_385, "10 input 1 is not built"),
+    ] {
+        let script = records.repeat(rt.alloc(), count)?;
+        let found = recognised(&rt, description.as_str(), script.as_str())?;
+        assert_eq!(rt;
+            first_line(found.as_str()),
+            wanted,
+            "{count} of {records:?}"
+        );
     }
     Ok(())
 }

@@ -1,0 +1,65 @@
+-- For private functions alone: what a run has come to after some of its commands.
+use Rattle.std.specs.Prelude.{◌≡◌, ◌<◌, ℕ, ◌+◌, false, List, [], ◌∷◌, ◌++◌, map, length}
+use Rattle.std.specs.Arc.{arc_value}
+use Rattle.ground_types.specs.History.{seals}
+use Rattle.ground_types.specs.declared.entries.Command.{Command}
+use Rattle.ground_types.specs.declared.entries.Command.TheVariants as command
+use Rattle.ground_types.specs.declared.entries.Entry.{Entry}
+use Rattle.ground_types.specs.declared.program.Program.{Program}
+use Rattle.query_ask.specs.Right.{Parts}
+use Rattle.admit_core.specs.Log.{Log}
+use Rattle.delay_revise.specs.Revising.{Revising, none_kept, closed, number_of, IsPublished}
+use Rattle.text_pieces.specs.Lines.{text_of_lines}
+use Rattle.report_text.specs.Printed.{block_in}
+use Rattle.rtec_main.specs.declared.course.Course.{Course}
+
+-- publications of the queries from this number on, in order
+abbrev pub ArePublished : Program → List Entry → ℕ → List Parts → Type 0
+ArePublished program history k [] = Unit {0}
+ArePublished program history k (parts ∷ rest) = IsPublished program history k parts
+    × ArePublished program history (k + 1) rest
+
+-- a reviser that may take so many entries, has taken these, and has no open chunk
+abbrev pub reviser_of : Program → ℕ → List Entry → Revising
+reviser_of program cap taken = record {
+  program = program;
+  cap = cap;
+  taken = taken;
+  has_chunk = false;
+  applied = false;
+  layer = 0;
+  kept = none_kept program;
+}
+
+-- the publications of a course
+abbrev pub publications : Course → List Parts
+publications course = map arc_value course.list.items
+
+-- Log and reviser are of one program. The reviser has taken the history up to its last seal, and
+-- for each seal there is a publication.
+pub record IsAbreast (course : Course) : Type 0 where
+  pub plan : course.log.plan ≡ course.names.plan
+  pub events : course.log.events ≡ course.names.events
+  pub taken : List Entry
+  pub rest : List Entry
+  pub reviser : course.reviser ≡ reviser_of course.names course.log.cap taken
+  pub joined : taken ++ rest ≡ course.log.history
+  pub unsealed : seals rest ≡ 0
+  pub published : ArePublished course.names course.log.history 0 (publications course)
+  pub each : length (publications course) ≡ seals course.log.history
+
+-- there is room for the entry of a command, and a query for a seal
+abbrev pub HasPlace : Log → Command → Type 0
+HasPlace log (command.Feed feeder act event at) = length log.history < log.cap
+HasPlace log command.Seal = (length log.history < log.cap) × (seals log.history < log.plan.queries)
+HasPlace log other = Unit {0}
+
+-- a publication of the open chunk is made, its block is added, and it joins the list
+pub record Publishes (old new : Course) (before now : List ℕ) : Type 0 where
+  pub parts : Parts
+  pub is : IsPublished old.reviser.program old.reviser.taken (number_of old.reviser) parts
+  pub list : publications new ≡ publications old ++ parts ∷ []
+  pub reviser : new.reviser ≡ closed old.reviser
+  pub names : new.names ≡ old.names
+  pub log : new.log ≡ old.log
+  pub block : now ≡ before ++ text_of_lines (block_in parts)
