@@ -33,7 +33,7 @@ use Rattle.delay_revise.proofs.Alike.{row_alike}
 use Rattle.delay_revise.proofs.EachItem.{all_both}
 use Rattle.delay_revise.proofs.Expressions.{expr_told}
 use Rattle.delay_revise.proofs.LayerParts.{all_more}
-use Rattle.delay_revise.proofs.LookUp.{covers_pairs}
+use Rattle.query_ask.proofs.Reading.{covers_pairs}
 use Rattle.delay_revise.proofs.Naming.{fluent_known}
 
 -- ---- what fits is what is needed

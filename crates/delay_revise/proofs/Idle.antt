@@ -26,7 +26,7 @@ use Rattle.layer_cache.specs.Rows.{Cached}
 use Rattle.point_rule.specs.Known.{known, is_open}
 use Rattle.delay_revise.specs.Working.{is_static, rows_over, triggers_of, touched_of, open_points}
 use Rattle.delay_revise.proofs.Alike.{row_alike, points_alike}
-use Rattle.delay_revise.proofs.Occurs.{inside_is}
+use Rattle.query_ask.proofs.TrueAnswers.{inside_is}
 
 -- ---- rules that are true nowhere
 

@@ -20,7 +20,7 @@ use Rattle.ground_types.proofs.Points.{points_are}
 use Rattle.ground_types.proofs.Rows.{le_or_above}
 use Rattle.ground_types.specs.declared.program.Rule.{Rule}
 use Rattle.simple_fluent.specs.Rows.{IsInside}
-use Rattle.delay_revise.proofs.Occurs.{inside_is}
+use Rattle.query_ask.proofs.TrueAnswers.{inside_is}
 
 -- some list has the point
 abbrev pub some_has : List (List ℕ) → ℕ → Bool

@@ -1,18 +1,17 @@
 -- What is looked up in the rows of units that are those of a query is what is true in it.
-use Rattle.std.proofs.Common.{◌≡◌, ℕ, zero, suc, ◌+◌, ◌-◌, ◌<◌, ◌≤◌, Bool, true, false, not, cond}
-use Rattle.std.proofs.Common.{◌&&◌, ◌||◌}
-use Rattle.std.proofs.Common.{leb, ltb, nat_lt, List, [], ◌∷◌, map, flat_map, length, slice_get}
+use Rattle.std.proofs.Common.{◌≡◌, ℕ, ◌+◌, ◌-◌, ◌<◌, ◌≤◌, Bool, true, false, not, cond}
+use Rattle.std.proofs.Common.{◌&&◌}
+use Rattle.std.proofs.Common.{leb, ltb, nat_lt, List, [], ◌∷◌, map, flat_map, slice_get}
 use Rattle.std.proofs.Common.{Option, Some, None, refl, sym, ◌∙◌, ap, ap₂, arith}
 use Rattle.std.specs.Prelude.{option_map}
-use Rattle.std.specs.List.{list_all, range_with_len, enumerate_from}
+use Rattle.std.specs.List.{list_all, range_with_len}
 use Rattle.std.proofs.lemmas.Bool.Decides.{nat_tests}
 use Rattle.std.proofs.lemmas.List.Folds.{list_all-append}
-use Rattle.std.proofs.lemmas.Option.{slice_get-map, slice_get-get_or, same_Some}
-use Rattle.std.proofs.lemmas.List.FromFn.{get_or-range_with_len, length-range_with_len}
+use Rattle.std.proofs.lemmas.Option.{slice_get-map}
 use Rattle.std.proofs.lemmas.Bool.{and_parts}
 use Rattle.ground_types.specs.Meaning.{IsMeaning, units_of_trigger, units_of_what, units_of_rule}
 use Rattle.ground_types.specs.Members.{contains}
-use Rattle.ground_types.specs.Publication.{PublishedRows, rows_of_kind, value_count, opening_of}
+use Rattle.ground_types.specs.Publication.{rows_of_kind, value_count, opening_of}
 use Rattle.ground_types.specs.Publication.{events_of_query, query_table, publication}
 use Rattle.ground_types.specs.Recognition.{is_among, listed}
 use Rattle.ground_types.specs.Rows.{covers, row, points}
@@ -22,7 +21,6 @@ use Rattle.ground_types.specs.Truth.{Table, holds, happens, is_so, condition_hol
 use Rattle.ground_types.specs.Windows.{left, right}
 use Rattle.ground_types.proofs.Layers.{layers_are_meaning}
 use Rattle.ground_types.proofs.Points.{points_are}
-use Rattle.ground_types.proofs.Rows.{runs_are}
 use Rattle.ground_types.specs.declared.entries.Entry.{Entry}
 use Rattle.ground_types.specs.declared.program.Cond.{Cond}
 use Rattle.ground_types.specs.declared.program.Rule.{Rule}
@@ -38,13 +36,15 @@ use Rattle.event_store.specs.Standing.{Events, standing}
 use Rattle.layer_cache.specs.Told.{event_has, value_covers, fluent_has}
 use Rattle.point_rule.specs.Known.{with_events}
 use Rattle.simple_fluent.specs.Rows.{pairs}
-use Rattle.span_algebra.specs.Normal.{has, covers as has_span}
+use Rattle.span_algebra.specs.Normal.{has}
 use Rattle.span_algebra.specs.declared.spans.Span.{Span}
 use Rattle.span_algebra.specs.declared.rows.UnitRows.{UnitRows}
 use Rattle.span_algebra.specs.declared.rows.UnitRows.TheVariants.{Fluent, Event}
 use Rattle.delay_revise.specs.Published.{OccurIn, HaveRowsOf}
 use Rattle.query_ask.specs.Right.{published}
-use Rattle.delay_revise.proofs.Occurs.{inside_is, occurs_there}
+use Rattle.query_ask.proofs.Reading.{covers_pairs}
+use Rattle.query_ask.proofs.TrueAnswers.{range_at, inside_is, covers_inside, place_of}
+use Rattle.delay_revise.proofs.Occurs.{occurs_there}
 
 -- where the input events of query k occur
 abbrev occurs_in : Program → List Entry → ℕ → ℕ → ℕ → Bool
@@ -60,12 +60,6 @@ table_means program history k sound =
     layers_are_meaning program (listed (opening_of program history k))
     (occurs_in program history k) (left program.plan k) sound.layers
 
--- the spans as pairs have the same points
-pub covers_pairs : (row : List Span) (t : ℕ) → has_span row t ≡ covers (pairs row) t
-covers_pairs [] t = refl
-covers_pairs (s ∷ rest) t = ap (λ (b : Bool). (ltb s.after t && leb t s.until) || b)
-    (covers_pairs rest t)
-
 abbrev pub option_covers : Option (List (ℕ × ℕ)) → ℕ → Bool
 option_covers None t = false
 option_covers (Some row) t = covers row t
@@ -74,16 +68,6 @@ pub value_covers_pairs : (row : Option (List Span)) (t : ℕ) → value_covers r
     ≡ option_covers (option_map pairs row) t
 value_covers_pairs None t = refl
 value_covers_pairs (Some row) t = covers_pairs row t
-
-zero_first : (v : ℕ) → 0 + v ≡ v
-zero_first v = omega arith
-
--- the number at a place of a range from 0 on
-pub range_at : (n v : ℕ) → v < n → slice_get (range_with_len 0 n) v ≡ Some v
-range_at n v lt =
-    let within : v < length (range_with_len 0 n) = omega (arith, length-range_with_len 0 n) in
-    slice_get-get_or (range_with_len 0 n) v 0 within ∙ ap Some (get_or-range_with_len 0 n v 0 lt
-    ∙ zero_first v)
 
 -- the row of a value among those of a fluent
 value_has : (rows : List (List Span)) (of : ℕ → List (ℕ × ℕ)) (count v t : ℕ) → v < count
@@ -129,27 +113,11 @@ event_has_row table number count (Derived rules) w q t (Some (Event list)) event
     let same : list ≡ points (table.derived number) w q = cc in
     ap (λ (l : List ℕ). contains l t) same
 
--- at a value point the row has what the test says
-covers_inside : (test : ℕ → Bool) (w q t : ℕ) → w < t → t ≤ q + 1 → covers (row test w q) t ≡ test t
-covers_inside test w q t above within =
-    (runs_are test w (q + 1 - w)).each t ∙ inside_is w (w + (q + 1 - w)) t (test t) above
-    (omega arith)
-
 -- at an event point the points are where the test is true
 contains_inside : (test : ℕ → Bool) (w q t : ℕ) → w < t → t ≤ q → contains (points test w q) t
     ≡ test t
 contains_inside test w q t above within =
     (points_are test w q (omega arith)).each t ∙ inside_is w q t (test t) above within
-
-place_of : (at : ℕ × Unit → PublishedRows) (a k n : ℕ) (units : List Unit) (unit : Unit)
-    → n ≡ a + k → slice_get units k ≡ Some unit →
-    slice_get (map at (enumerate_from a units)) k ≡ Some (at (n, unit))
-place_of at a k n [] unit is found = cc
-place_of at a zero n (u ∷ units) unit is found =
-    let first : a ≡ n = omega arith in
-    ap₂ (λ (m : ℕ) (x : Unit). Some (at (m, x))) first (same_Some u unit found)
-place_of at a (suc k) n (u ∷ units) unit is found = place_of at (a + 1) k n units unit
-    (omega arith) found
 
 -- what is published of a unit, by its kind
 pub published_of : (program : Program) (history : List Entry) (k number : ℕ) (unit : Unit)

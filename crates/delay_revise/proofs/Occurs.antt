@@ -14,6 +14,7 @@ use Rattle.ground_types.specs.Windows.{left, right}
 use Rattle.ground_types.proofs.Points.{points_are}
 use Rattle.ground_types.specs.declared.entries.Entry.{Entry}
 use Rattle.ground_types.specs.declared.program.Program.{Program}
+use Rattle.query_ask.proofs.TrueAnswers.{inside_is}
 use Rattle.delay_revise.specs.Published.{OccurIn}
 
 among_one : (event other t : ℕ) (xs : List ℕ)
@@ -54,10 +55,6 @@ inside_once : (w q t e events : ℕ) (b : Bool) → e < events →
     ≡ (ltb w t && leb t q && b)
 inside_once w q t e events true lt = grind (arith, nat_tests)
 inside_once w q t e events false lt = grind (arith, nat_tests)
-
--- a test of the points of a window at one of them
-pub inside_is : (w q t : ℕ) (b : Bool) → w < t → t ≤ q → (ltb w t && leb t q && b) ≡ b
-inside_is w q t b above within = grind (arith, nat_tests)
 
 -- an input event of the program occurs in query k at the points of the window at which it stands
 pub occurs_where : (program : Program) (history : List Entry) (k event t : ℕ)

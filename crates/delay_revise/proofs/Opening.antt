@@ -44,7 +44,8 @@ use Rattle.span_algebra.specs.declared.rows.UnitRows.TheVariants.{Fluent, Event}
 use Rattle.delay_revise.specs.Published.{HaveRowsOf}
 use Rattle.delay_revise.specs.Going.{IsSmall}
 use Rattle.query_ask.specs.Right.{published}
-use Rattle.delay_revise.proofs.LookUp.{table_means, value_found, range_at}
+use Rattle.query_ask.proofs.TrueAnswers.{range_at}
+use Rattle.delay_revise.proofs.LookUp.{table_means, value_found}
 use Rattle.delay_revise.proofs.Naming.{all_at}
 
 -- a list of numbers below a count

@@ -7,7 +7,8 @@ use Rattle.std.specs.List.{range_with_len}
 use Rattle.std.proofs.lemmas.List.Sums.{sum_by-cons, sum_by-append}
 use Rattle.ground_types.specs.History.{is_seal, seals, stands, before_seal}
 use Rattle.ground_types.specs.Publication.{opening_of, query_table, publication}
-use Rattle.ground_types.specs.Publication.{Published, rows_of_table}
+use Rattle.ground_types.specs.Publication.{Published, PublishedRows, rows_of_table}
+use Rattle.ground_types.specs.Publication.{events_of_query}
 use Rattle.ground_types.specs.Recognition.{recognition, is_among, listed, kind_of}
 use Rattle.ground_types.specs.Rows.{points}
 use Rattle.ground_types.specs.Touched.{evaluations, is_changed, rules_of}
@@ -18,6 +19,7 @@ use Rattle.ground_types.specs.declared.entries.Entry.TheVariants.{Fed, Seal}
 use Rattle.ground_types.specs.declared.entries.Occ.{Occ}
 use Rattle.ground_types.specs.declared.program.Program.{Program}
 use Rattle.query_ask.specs.Right.{Parts}
+use Rattle.query_ask.specs.Answers.{said}
 use Rattle.delay_revise.specs.Revising.{IsPublished}
 
 -- one more entry before others counts if it is a seal
@@ -118,3 +120,22 @@ published_stays program before more k parts is =
       evaluations_are = is.evaluations_are ∙ sym (evaluations_stay program before more k
           is.sealed);
     }
+
+-- parts that are published of a query say what is published of it
+pub says_publication : (program : Program) (history : List Entry) (k : ℕ) (parts : Parts)
+    → IsPublished program history k parts → said parts ≡ publication program history k
+says_publication program history k parts is =
+    let told : ℕ → ℕ → List (Option ℕ) → List Occ → List PublishedRows → Published =
+    λ number front opening events rows. record {
+      number = number;
+      front = front;
+      opening = opening;
+      events = events;
+      rows = rows;
+    } in
+    ap₂ (λ number front. told number front parts.opening parts.events (said parts).rows) is.number
+    is.front
+    ∙ ap₂ (λ opening events. told k (length (before_seal history k) + 1) opening events
+    (said parts).rows) is.opening is.events
+    ∙ ap (told k (length (before_seal history k) + 1) (opening_of program history k)
+    (events_of_query program history k)) is.rows

@@ -1,2 +1,4 @@
 mod RowCounts
 mod Lamps
+pub mod Reading
+pub mod TrueAnswers
