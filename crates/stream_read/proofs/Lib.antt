@@ -1,4 +1,5 @@
 mod OfProgram
+mod NamedValues
 pub mod FieldPlaces
 pub mod NamedPlaces
 pub mod Powers

@@ -1,7 +1,8 @@
--- The adds and revokes of a script are of a feeder of 1 to 8 and of an event of its program.
+-- The commands of a script are of its program: feeds of a feeder of 1 to 8 and of one of its events,
+-- questions for values of its fluents.
 use Rattle.std.proofs.Common.{◌≡◌, ℕ, ◌+◌, ◌-◌, ◌<◌, ◌≤◌, nat_le, Bool, true, false, ◌&&◌, List, []}
 use Rattle.std.proofs.Common.{◌∷◌, map, take, length, position, Option, Some, None, option_map}
-use Rattle.std.proofs.Common.{IfSome, option_and_then, Result, Ok, Err, refl, sym, ap, ◌∙◌, arith}
+use Rattle.std.proofs.Common.{IfSome, option_and_then, Result, Ok, Err, refl, sym, arith}
 use Rattle.std.proofs.Common.{nat_lt, IfOk, subst, if◌then◌else◌, codes}
 use Rattle.std.specs.Str.{bytes_eq}
 use Rattle.std.proofs.lemmas.Bool.{and_parts, leb-true}
@@ -12,20 +13,20 @@ use Rattle.ground_types.specs.declared.entries.Query.TheVariants as query
 use Rattle.ground_types.specs.declared.entries.Command.{Command}
 use Rattle.ground_types.specs.declared.entries.Command.TheVariants as command
 use Rattle.ground_types.specs.declared.program.Program.{Program}
-use Rattle.ground_names.specs.Found.{event_named, unit_named, value_named}
+use Rattle.ground_names.specs.Found.{unit_named, value_named}
 use Rattle.ground_names.proofs.EventBounds.{event_below}
+use Rattle.stream_read.proofs.NamedValues.{value_fits}
 use Rattle.stream_read.specs.declared.records.Meaning.{Meaning}
 use Rattle.stream_read.specs.declared.records.Meaning.TheVariants.{Means, Ignored, NoForm}
 use Rattle.stream_read.specs.declared.script.Shape.{Shape}
 use Rattle.stream_read.specs.declared.script.Shape.TheVariants as shape
 use Rattle.stream_read.specs.declared.script.Script.{Script}
 use Rattle.stream_read.specs.declared.script.StreamRefused.{StreamRefused}
-use Rattle.stream_read.specs.declared.script.StreamRefused.TheVariants as refused
 use Rattle.stream_read.specs.declared.verbs.Verb.{Verb}
 use Rattle.stream_read.specs.declared.verbs.Verb.TheVariants as verb
 use Rattle.stream_read.specs.Fields.{number_of, feeder_of}
 use Rattle.stream_read.specs.Records.{verb_of, or_no_form, fed, feed, feed_by, feed_of_feeder, seal}
-use Rattle.stream_read.specs.Records.{fed_at, holds_of, ask_holds, ask_count, ask_block, ask}
+use Rattle.stream_read.specs.Records.{fed_at, ask_holds, ask_count, ask_block, ask}
 use Rattle.stream_read.specs.Records.{wait, after, meaning_by, meaning_of}
 use Rattle.stream_read.specs.Scripts.{most, has_no_form, placed_from, answer_by, script_of, Answers}
 use Rattle.stream_read.specs.Scripts.{IsShape, IsOfProgram, AreOfProgram}
@@ -37,7 +38,7 @@ module _ (program : Program) where
   Says Ignored = Unit {0}
   Says NoForm = Unit {0}
 
-  -- ---- questions and waits are no feeds
+  -- ---- questions and waits
 
   no_feed : (o : Option Command) → IfSome o (IsOfProgram program) → Says (or_no_form o)
   no_feed None is = tt
@@ -47,6 +48,12 @@ module _ (program : Program) where
       → IsOfProgram program (make x)) → IfSome (option_map make o) (IsOfProgram program)
   mapped make None each = tt
   mapped make (Some x) each = each x
+
+  named : {X : Type 0} {P : X → Type 0} (make : X → Command) (o : Option X) → ((x : X) → P x
+      → IsOfProgram program (make x)) → IfSome o P → IfSome (option_map make o)
+      (IsOfProgram program)
+  named make None each is = tt
+  named make (Some x) each is = each x is
 
   chained : {X : Type 0} (next : X → Option Command) (o : Option X) → ((x : X)
       → IfSome (next x) (IsOfProgram program))
@@ -72,24 +79,6 @@ module _ (program : Program) where
       (feeder_of feeder) (λ f. mapped (command.After f) (number_of count) (λ n. tt))
   follows (feeder ∷ count ∷ more ∷ rest) = tt
 
-  asks_holds : (fields : List (List ℕ)) → IfSome (ask_holds program fields) (IsOfProgram program)
-  asks_holds [] = tt
-  asks_holds (at ∷ []) = tt
-  asks_holds (at ∷ value ∷ []) = tt
-  asks_holds (at ∷ value ∷ name ∷ args) =
-      chained (λ point. option_and_then (λ unit. option_map (λ v. command.Ask (query.Holds unit v
-      point)) (value_named program unit value)) (unit_named (record {
-        program = program;
-        word = name;
-        args = args;
-      }))) (number_of at) (λ point. chained (λ unit. option_map (λ v. command.Ask (query.Holds unit
-      v point)) (value_named program unit value)) (unit_named (record {
-        program = program;
-        word = name;
-        args = args;
-      })) (λ unit. mapped (λ v. command.Ask (query.Holds unit v point))
-      (value_named program unit value) (λ v. tt)))
-
   asks_count : (fields : List (List ℕ)) → IfSome (ask_count fields) (IsOfProgram program)
   asks_count [] = tt
   asks_count (more ∷ rest) = tt
@@ -99,20 +88,41 @@ module _ (program : Program) where
   asks_block (number ∷ []) = mapped (λ n. command.Ask (query.Block n)) (number_of number) (λ n. tt)
   asks_block (number ∷ more ∷ rest) = tt
 
-  asks : (fields : List (List ℕ)) → IfSome (ask program fields) (IsOfProgram program)
-  asks [] = tt
-  asks (what ∷ fields) =
-      chosen (bytes_eq what (codes "holds")) _ _ (asks_holds fields)
-      (chosen (bytes_eq what (codes "count")) _ _ (asks_count fields)
-      (chosen (bytes_eq what (codes "block")) _ _ (asks_block fields) tt))
-
   seals : (fields : List (List ℕ)) → Says (seal fields)
   seals [] = tt
   seals (more ∷ rest) = tt
 
-  -- ---- adds and revokes
-
   module _ (sound : IsSound program) where
+    -- ---- questions
+
+    asks_holds : (fields : List (List ℕ)) → IfSome (ask_holds program fields)
+        (IsOfProgram program)
+    asks_holds [] = tt
+    asks_holds (at ∷ []) = tt
+    asks_holds (at ∷ value ∷ []) = tt
+    asks_holds (at ∷ value ∷ name ∷ args) =
+        chained (λ point. option_and_then (λ unit. option_map (λ v. command.Ask (query.Holds unit v
+        point)) (value_named program unit value)) (unit_named (record {
+          program = program;
+          word = name;
+          args = args;
+        }))) (number_of at) (λ point. chained (λ unit. option_map (λ v. command.Ask
+        (query.Holds unit v point)) (value_named program unit value)) (unit_named (record {
+          program = program;
+          word = name;
+          args = args;
+        })) (λ unit. named (λ v. command.Ask (query.Holds unit v point))
+        (value_named program unit value) (λ v is. is) (value_fits program sound unit value)))
+
+    asks : (fields : List (List ℕ)) → IfSome (ask program fields) (IsOfProgram program)
+    asks [] = tt
+    asks (what ∷ fields) =
+        chosen (bytes_eq what (codes "holds")) _ _ (asks_holds fields)
+        (chosen (bytes_eq what (codes "count")) _ _ (asks_count fields)
+        (chosen (bytes_eq what (codes "block")) _ _ (asks_block fields) tt))
+
+    -- ---- adds and revokes
+
     feeds_event : (feeder : ℕ) (act : Act) (at : ℕ) (event : Option ℕ) → (1 ≤ feeder)
         × (feeder ≤ 8) → IfSome event (λ e. e < program.events) → Says (fed feeder act at event)
     feeds_event feeder act at None few below = tt

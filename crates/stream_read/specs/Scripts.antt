@@ -1,10 +1,12 @@
 -- Public contracts speak by this: the commands of a script.
 use Rattle.std.specs.Prelude.{◌≡◌, ◌<◌, ◌≤◌, ℕ, ◌+◌, nat_lt, Bool, true, false, List, [], ◌∷◌}
-use Rattle.std.specs.Prelude.{length, map, take, filter, position, Option, Some, None, Result, Ok}
-use Rattle.std.specs.Prelude.{Err}
+use Rattle.std.specs.Prelude.{length, map, take, filter, position, slice_get, Option, Some, None}
+use Rattle.std.specs.Prelude.{Result, Ok, Err}
 use Rattle.csv.specs.Reading.{records, default_config, strip_bom}
 use Rattle.ground_types.specs.declared.entries.Command.{Command}
-use Rattle.ground_types.specs.declared.entries.Command.TheVariants.{Feed}
+use Rattle.ground_types.specs.declared.entries.Command.TheVariants.{Feed, Ask}
+use Rattle.ground_types.specs.declared.entries.Query.TheVariants as query
+use Rattle.ground_types.specs.Sound.{is_fluent_value}
 use Rattle.ground_types.specs.declared.program.Program.{Program}
 use Rattle.stream_read.specs.declared.script.Shape.{Shape}
 use Rattle.stream_read.specs.declared.script.Shape.TheVariants as shape
@@ -75,10 +77,13 @@ abbrev pub IsShape : Shape → Type 0
 IsShape (shape.Feeder number) = (1 ≤ number) × (number ≤ 8)
 IsShape other = Unit {0}
 
--- an add or a revoke is of a feeder of 1 to 8 and of an event of the program
+-- an add or a revoke is of a feeder of 1 to 8 and of an event of the program, and a question for a
+-- value is for one of a fluent of it
 abbrev pub IsOfProgram : Program → Command → Type 0
 IsOfProgram program (Feed feeder act event at) = (1 ≤ feeder) × (feeder ≤ 8)
     × (event < program.events)
+IsOfProgram program (Ask (query.Holds unit v at)) = is_fluent_value program
+    (slice_get program.units unit) v ≡ true
 IsOfProgram program command = Unit {0}
 
 abbrev pub AreOfProgram : Program → List Placed → Type 0
