@@ -1,20 +1,21 @@
 -- Public contracts speak by this: the parts of a report, from what is at hand where each is
 -- printed.
 use Rattle.std.specs.Prelude.{◌≡◌, ℕ, nat_le, Bool, true, List, [], ◌∷◌, ◌++◌, map, length, sum_by}
-use Rattle.std.specs.Prelude.{codes, decimal}
+use Rattle.std.specs.Prelude.{codes, decimal, slice_get, Option, Some, None}
 use Rattle.std.specs.List.{All, list_all, range_with_len}
 use Rattle.ground_types.specs.Windows.{left, right}
 use Rattle.ground_types.specs.History.{seals}
 use Rattle.ground_types.specs.Sound.{IsSound}
-use Rattle.ground_types.specs.Publication.{PublishedRows, publication}
+use Rattle.ground_types.specs.Publication.{PublishedRows}
 use Rattle.ground_types.specs.Touched.{evaluations}
 use Rattle.ground_types.specs.declared.entries.Entry.{Entry}
 use Rattle.ground_types.specs.declared.entries.Entry.TheVariants.{Fed, Seal}
 use Rattle.ground_types.specs.declared.program.Name.{Name}
 use Rattle.ground_types.specs.declared.program.Program.{Program}
 use Rattle.query_ask.specs.Right.{Parts, published}
+use Rattle.query_ask.specs.Answers.{said}
 use Rattle.report_text.specs.Report.{entry_line, query_line, row_lines, entries_line, span_count}
-use Rattle.report_text.specs.Report.{point_count}
+use Rattle.report_text.specs.Report.{point_count, publications}
 
 -- the line of an add or a revoke
 abbrev pub feed_lines : Program → Entry → List (List ℕ)
@@ -58,12 +59,23 @@ end_of history ignored list =
     (sum_by (λ parts. parts.evaluations) list)
     ∷ []
 
--- for each seal of the history, in order, the rows that are published and the count of evaluations
+-- the block of the publication at a place, if there is one
+abbrev pub block_if : Option Parts → List (List ℕ)
+block_if None = []
+block_if (Some parts) = block_in parts
+
+abbrev pub block_at : List Parts → ℕ → List (List ℕ)
+block_at list number = block_if (slice_get list number)
+
+-- for each seal of the history, in order, what is published and the count of evaluations
 pub record AreOf (program : Program) (history : List Entry) (list : List Parts) : Type 0 where
-  pub rows : map rows_in list ≡ map (λ k. (publication program history k).rows)
-      (range_with_len 0 (seals history))
+  pub published : map said list ≡ publications program history
   pub evaluations : map (λ parts. parts.evaluations) list ≡ map (evaluations program history)
       (range_with_len 0 (seals history))
+
+-- publications of sound programs
+abbrev pub AreSound : List Parts → Type 0
+AreSound list = (j : ℕ) (parts : Parts) → slice_get list j ≡ Some parts → IsSound parts.program
 
 -- (a fluent has at most 64 values, which has to be known where spans are counted)
 abbrev pub has_few_values : Name → Bool

@@ -3,10 +3,12 @@
 use Rattle.std.specs.Prelude.{ℕ, nat_lt, Bool, true, false, not, ◌==◌, if◌then◌else◌, List, [], ◌∷◌}
 use Rattle.std.specs.Prelude.{◌++◌, length, flat_map, fold, slice_get, sum_by, count_by, codes}
 use Rattle.std.specs.Prelude.{decimal, Option, Some, None}
-use Rattle.std.specs.List.{range_with_len, zip}
+use Rattle.std.specs.Prelude.{map}
+use Rattle.std.specs.List.{range_with_len, zip, slice_index_or}
 use Rattle.ground_types.specs.Windows.{left, right}
 use Rattle.ground_types.specs.History.{reply_to, seals, is_seal}
-use Rattle.ground_types.specs.Publication.{PublishedRows, fluent_rows, event_row, publication}
+use Rattle.ground_types.specs.Publication.{PublishedRows, fluent_rows, event_row, Published}
+use Rattle.ground_types.specs.Publication.{publication}
 use Rattle.ground_types.specs.Touched.{evaluations}
 use Rattle.ground_types.specs.declared.plan.Plan.{Plan}
 use Rattle.ground_types.specs.declared.entries.Act.{Act}
@@ -19,11 +21,16 @@ use Rattle.ground_types.specs.declared.entries.Entry.{Entry}
 use Rattle.ground_types.specs.declared.entries.Entry.TheVariants.{Fed, Seal}
 use Rattle.ground_types.specs.declared.entries.Command.{Command}
 use Rattle.ground_types.specs.declared.entries.Command.TheVariants as command
+use Rattle.ground_types.specs.declared.entries.Query.{Query}
+use Rattle.ground_types.specs.declared.entries.Query.TheVariants as query
 use Rattle.ground_types.specs.declared.program.Domain.{Domain}
 use Rattle.ground_types.specs.declared.program.Name.{Name}
 use Rattle.ground_types.specs.declared.program.Unit.{Unit}
 use Rattle.ground_types.specs.declared.program.Program.{Program}
 use Rattle.ground_names.specs.EventAtoms.{event_atoms}
+use Rattle.query_ask.specs.Answers.{answered}
+use Rattle.query_ask.specs.declared.answers.Answer.{Answer}
+use Rattle.query_ask.specs.declared.answers.Answer.TheVariants as answer
 use Rattle.text_pieces.specs.Lines.{text_of_lines}
 use Rattle.text_pieces.specs.Atoms.{atom_by, unit_atom}
 
@@ -126,12 +133,65 @@ entry_lines program before (Fed feeder act event at reply) = entry_line program 
     reply ∷ []
 entry_lines program before (Seal number) = block_lines program (before ++ Seal number ∷ []) number
 
--- the lines of commands that follow a history: for each feed its entry line, for each seal its
--- block
+-- a fluent with one of its values: `on=true`
+abbrev pub value_text : Program → Option Unit → ℕ → List ℕ
+value_text program None v = []
+value_text program (Some unit) v = unit_atom program unit ++ codes "=" ++ slice_index_or
+    (value_words (slice_get program.names unit.name)) v []
+
+-- `ask holds on=true 8`, `ask count`, `ask block 1`
+abbrev pub query_text : Program → Query → List ℕ
+query_text program (query.Holds unit v t) = codes "ask holds " ++ value_text program
+    (slice_get program.units unit) v ++ codes " " ++ decimal t
+query_text program query.Count = codes "ask count"
+query_text program (query.Block number) = codes "ask block " ++ decimal number
+
+-- ` yes`, ` outside 0 10`; nothing behind a block that is there
+abbrev pub answer_text : Answer → List ℕ
+answer_text answer.Yes = codes " yes"
+answer_text answer.No = codes " no"
+answer_text (answer.Outside w q) = codes " outside " ++ decimal w ++ codes " " ++ decimal q
+answer_text answer.NothingYet = codes " nothing-yet"
+answer_text (answer.NotPublished have) = codes " not-published " ++ decimal have
+answer_text (answer.Number n) = codes " " ++ decimal n
+answer_text (answer.Block number) = []
+
+-- lines, each with the same before it
+abbrev pub behind : List ℕ → List (List ℕ) → List (List ℕ)
+behind lead lines = map (λ line. lead ++ line) lines
+
+-- each line of a block that is there has `ask ` before it
+abbrev pub asked_block : (ℕ → List (List ℕ)) → Answer → List (List ℕ)
+asked_block block (answer.Block number) = behind (codes "ask ") (block number)
+asked_block block other = []
+
+-- the lines of an answer, where these are the blocks
+abbrev pub answer_lines : Program → (ℕ → List (List ℕ)) → Query → Answer → List (List ℕ)
+answer_lines program block asked answer = (query_text program asked ++ answer_text answer)
+    ∷ asked_block block answer
+
+-- what is published of a history, one for each of its seals
+abbrev pub publications : Program → List Entry → List Published
+publications program history = map (publication program history)
+    (range_with_len 0 (seals history))
+
+-- the lines of the answer to a question after a history
+abbrev pub ask_lines : Program → List Entry → Query → List (List ℕ)
+ask_lines program history asked =
+    answer_lines program (block_lines program history) asked
+    (answered program.plan (publications program history) asked)
+
+-- the lines of a command that follows a history: for a feed its entry line, for a seal its block,
+-- for a question its answer
+abbrev pub lines_of : Program → List Entry → Command → List (List ℕ)
+lines_of program before (command.Ask asked) = ask_lines program before asked
+lines_of program before other = flat_map (entry_lines program before)
+    (entries_of program.plan before other)
+
+-- the lines of commands that follow a history
 abbrev pub command_lines : Program → List Entry → List Command → List (List ℕ)
 command_lines program before [] = []
-command_lines program before (command ∷ rest) =
-    flat_map (entry_lines program before) (entries_of program.plan before command)
+command_lines program before (command ∷ rest) = lines_of program before command
     ++ command_lines program (before ++ entries_of program.plan before command) rest
 
 abbrev pub is_reply : Reply → Reply → Bool
@@ -188,8 +248,7 @@ abbrev pub end_lines : Program → List Entry → ℕ → List (List ℕ)
 end_lines program history ignored = (codes "ignored " ++ decimal ignored) ∷ entries_line history
     ∷ queries_line program history ∷ []
 
--- *Report text* of a list of commands without asks, with so many ignored records; the lines of asks
--- come with the scripts that have them
+-- *Report text* of a list of commands, with so many ignored records
 abbrev pub report_text : Program → List Command → ℕ → List ℕ
 report_text program commands ignored =
     text_of_lines (command_lines program [] commands ++ end_lines program

@@ -3,7 +3,7 @@ ghost use Rattle.std.specs.Prelude.{◌≡◌, ◌++◌, ◌∷◌, [], length, 
 ghost use Rattle.ground_types.specs.Sound.{IsSound};
 ghost use Rattle.ground_types.specs.Windows.{left, right};
 ghost use Rattle.text_pieces.specs.Lines.{text_of_lines};
-ghost use Rattle.report_text.specs.Report.{query_line};
+ghost use Rattle.report_text.specs.Report.{query_line, behind};
 ghost use Rattle.report_text.specs.Printed.{block_in};
 
 use crate::rows::put_rows;
@@ -13,20 +13,22 @@ use query_ask::Publication;
 use rt_base::OutOfMemory;
 use text_pieces::{Piece, put_all};
 
-// Adds the line of a query.
+// Adds the line of a query, with a lead before it.
 fn put_query(
     text: &mut Vec<u8>,
+    lead: &str,
     k: u32,
     w: Point,
     q: Point,
     evaluations: u64,
 ) -> Result<(), OutOfMemory>
     ensures { OnOk result (text.new.items ≡ text.old.items ++ text_of_lines
-        (query_line k w q evaluations ∷ [])) }
+        (behind lead.now (query_line k w q evaluations ∷ []))) }
 {
     put_all(
         text,
         &[
+            Piece::Text(lead),
             Piece::Text("query "),
             Piece::Number(k as u64),
             Piece::Text(" window ("),
@@ -41,18 +43,19 @@ fn put_query(
     Ok(())
 }
 
-// Adds the line of a publication's query.
-fn put_front(text: &mut Vec<u8>, publication: &Publication) -> Result<(), OutOfMemory>
+// Adds the line of a publication's query, with a lead before it.
+fn put_front(text: &mut Vec<u8>, lead: &str, publication: &Publication) -> Result<(), OutOfMemory>
     requires sound { IsSound publication.now.program }
     ensures { OnOk result (text.new.items ≡ text.old.items ++ text_of_lines
-        (query_line publication.now.number (left publication.now.program.plan
+        (behind lead.now (query_line publication.now.number (left publication.now.program.plan
         publication.now.number) (right publication.now.program.plan publication.now.number)
-        publication.now.evaluations ∷ [])) }
+        publication.now.evaluations ∷ []))) }
 {
     let k = publication.number();
     let plan = &publication.program().plan;
     put_query(
         text,
+        lead,
         k,
         plan.left(k),
         plan.right(k),
@@ -60,18 +63,22 @@ fn put_front(text: &mut Vec<u8>, publication: &Publication) -> Result<(), OutOfM
     )
 }
 
-// Adds a block piece by piece. Refused, it leaves what was there, and may leave a part of the block
-// behind it.
-fn put_pieces(publication: &Publication, out: &mut Vec<u8>) -> Result<(), OutOfMemory>
+// Adds a block piece by piece, with a lead before each line. Refused, it leaves what was there, and
+// may leave a part of the block behind it.
+pub(crate) fn put_pieces(
+    publication: &Publication,
+    lead: &str,
+    out: &mut Vec<u8>,
+) -> Result<(), OutOfMemory>
     requires sound { IsSound publication.now.program }
     ensures added { OnOk result (out.new.items ≡ out.old.items ++ text_of_lines
-        (block_in publication.now)) }
+        (behind lead.now (block_in publication.now))) }
     ensures kept { OnErr result (take (length out.old.items) out.new.items ≡ out.old.items) }
 {
     let mut text = Vec::new(*out.allocator());
-    put_front(&mut text, publication)?;
+    put_front(&mut text, lead, publication)?;
     append(out, text.as_slice())?;
-    put_rows(publication, &mut text, out)
+    put_rows(publication, lead, &mut text, out)
 }
 
 /// Adds the block of a publication: the line of its query, and its rows that are not empty. Its
@@ -83,7 +90,7 @@ pub fn put_block(publication: &Publication, out: &mut Vec<u8>) -> Result<(), Out
     ensures refused { OnErr result (out.new.items ≡ out.old.items) }
 {
     let length = out.len();
-    let put = put_pieces(publication, out);
+    let put = put_pieces(publication, "", out);
     if put.is_err() {
         out.truncate(length);
     }

@@ -1,5 +1,5 @@
 // Laws of the definitions.
-ghost use Rattle.std.specs.Prelude.{◌≡◌, ◌≤◌, ℕ, List, ◌++◌};
+ghost use Rattle.std.specs.Prelude.{◌≡◌, ◌≤◌, ℕ, List, ◌++◌, map};
 ghost use Rattle.ground_types.specs.History.{IsLegal, seals};
 ghost use Rattle.ground_types.specs.Publication.{publication};
 ghost use Rattle.ground_types.specs.Touched.{evaluations};
@@ -7,10 +7,12 @@ ghost use Rattle.ground_types.specs.declared.plan.Plan.{Plan};
 ghost use Rattle.ground_types.specs.declared.entries.Command.{Command};
 ghost use Rattle.ground_types.specs.declared.entries.Entry.{Entry};
 ghost use Rattle.ground_types.specs.declared.program.Program.{Program};
+ghost use Rattle.ground_types.specs.declared.entries.Query.{Query};
 ghost use Rattle.query_ask.specs.Right.{Parts};
+ghost use Rattle.query_ask.specs.Answers.{said, answered, AreOfProgram};
 ghost use Rattle.report_text.specs.Report.{history_after, history_of, block_lines, command_lines};
-ghost use Rattle.report_text.specs.Report.{end_lines};
-ghost use Rattle.report_text.specs.Printed.{rows_in, block_in, end_of, AreOf};
+ghost use Rattle.report_text.specs.Report.{end_lines, answer_lines, ask_lines};
+ghost use Rattle.report_text.specs.Printed.{rows_in, block_in, block_at, end_of, AreOf};
 
 /// The history that is made of any commands is legal, where at most as many of them as there are
 /// queries are seals.
@@ -38,6 +40,15 @@ pub fn block_law()
         rows_in parts ≡ (publication parts.program history parts.number).rows →
         parts.evaluations ≡ evaluations parts.program history parts.number →
         block_in parts ≡ block_lines parts.program history parts.number }
+{}
+
+/// Where publications are those of a history, one for each of its seals, the lines of an answer are
+/// those of the report.
+pub fn answer_law()
+    ensures { (program : Program) (history : List Entry) (list : List Parts) (asked : Query) →
+        AreOf program history list → AreOfProgram program list →
+        answer_lines program (block_at list) asked (answered program.plan (map said list) asked)
+        ≡ ask_lines program history asked }
 {}
 
 /// Where publications are those of a history, one for each of its seals, the last three lines are

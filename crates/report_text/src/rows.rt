@@ -1,5 +1,5 @@
-// The lines of rows. Each `put_` function adds to the end of a text. Where memory runs out, it may
-// leave a part of what was to be added.
+// The lines of rows, each with a lead before it. Each `put_` function adds to the end of a text.
+// Where memory runs out, it may leave a part of what was to be added.
 ghost use Rattle.std.specs.Prelude.{◌≡◌, ◌++◌, map, flat_map, slice_get, codes, decimal};
 ghost use Rattle.std.specs.Prelude.{length, take, OnOk, OnErr};
 ghost use Rattle.ground_types.specs.Publication.{fluent_rows};
@@ -10,7 +10,7 @@ ghost use Rattle.query_ask.specs.Right.{published};
 ghost use Rattle.text_pieces.specs.Lines.{text_of_lines};
 ghost use Rattle.text_pieces.specs.Atoms.{unit_atom};
 ghost use Rattle.report_text.specs.Report.{value_words, span_text, fluent_lines, unit_lines};
-ghost use Rattle.report_text.specs.Report.{row_lines};
+ghost use Rattle.report_text.specs.Report.{row_lines, behind};
 ghost use Rattle.report_text.specs.EventLines.{event_lines};
 ghost use Rattle.report_text.specs.Printed.{rows_in};
 
@@ -22,18 +22,23 @@ use span_algebra::{Span, Spans, UnitRows};
 use text_pieces::{Piece, put_all, put_text, put_unit_atom};
 
 // The words of the values of a unit.
-fn value_words<'a>(program: &'a Program, unit: &Unit) -> &'a [Word]
+pub(crate) fn value_words<'a>(program: &'a Program, unit: &Unit) -> &'a [Word]
     ensures { result.now ≡ value_words (slice_get program.now.names unit.now.name) }
 {
     name_of(program, unit).map_or(&[], |name| name.values.as_slice())
 }
 
-// Adds what the line of a row begins with: the unit's atom behind two spaces.
-fn put_row_front(out: &mut Vec<u8>, program: &Program, unit: &Unit) -> Result<(), OutOfMemory>
-    ensures { OnOk result (out.new.items ≡ out.old.items ++ (codes "  " ++ unit_atom program.now
-        unit.now)) }
+// Adds what the line of a row begins with: the unit's atom behind the lead and two spaces.
+fn put_row_front(
+    out: &mut Vec<u8>,
+    lead: &str,
+    program: &Program,
+    unit: &Unit,
+) -> Result<(), OutOfMemory>
+    ensures { OnOk result (out.new.items ≡ out.old.items ++ (lead.now ++ codes "  " ++ unit_atom
+        program.now unit.now)) }
 {
-    put_text(out, "  ")?;
+    put_all(out, &[Piece::Text(lead), Piece::Text("  ")])?;
     put_unit_atom(out, program, unit)
 }
 
@@ -73,6 +78,7 @@ fn put_spans(out: &mut Vec<u8>, q: Point, spans: &[Span]) -> Result<(), OutOfMem
 // Adds the line of a value of a unit, if its row is not empty.
 fn put_fluent(
     out: &mut Vec<u8>,
+    lead: &str,
     program: &Program,
     q: Point,
     unit: &Unit,
@@ -80,13 +86,13 @@ fn put_fluent(
     spans: &[Span],
 ) -> Result<(), OutOfMemory>
     ensures { OnOk result (out.new.items
-        ≡ out.old.items ++ text_of_lines (fluent_lines q (unit_atom program.now unit.now)
-        (value.now, pairs spans.now))) }
+        ≡ out.old.items ++ text_of_lines (behind lead.now (fluent_lines q
+        (unit_atom program.now unit.now) (value.now, pairs spans.now)))) }
 {
     if spans.is_empty() {
         return Ok(());
     }
-    put_row_front(out, program, unit)?;
+    put_row_front(out, lead, program, unit)?;
     put_all(out, &[Piece::Text("="), Piece::Text(value)])?;
     put_spans(out, q, spans)?;
     put_text(out, "\n")
@@ -95,17 +101,26 @@ fn put_fluent(
 // Adds the lines of a fluent, from the rows of its values.
 fn put_fluents(
     out: &mut Vec<u8>,
+    lead: &str,
     program: &Program,
     q: Point,
     unit: &Unit,
     rows: &[Spans],
 ) -> Result<(), OutOfMemory>
     ensures { OnOk result (out.new.items
-        ≡ out.old.items ++ text_of_lines (unit_lines program.now q unit.now
-        (fluent_rows (map pairs rows.now)))) }
+        ≡ out.old.items ++ text_of_lines (behind lead.now (unit_lines program.now q unit.now
+        (fluent_rows (map pairs rows.now))))) }
 {
     for (value, spans) in value_words(program, unit).iter().zip(rows) {
-        put_fluent(out, program, q, unit, value.as_str(), spans.as_slice())?;
+        put_fluent(
+            out,
+            lead,
+            program,
+            q,
+            unit,
+            value.as_str(),
+            spans.as_slice(),
+        )?;
     }
     Ok(())
 }
@@ -124,17 +139,18 @@ fn put_points(out: &mut Vec<u8>, points: &[Point]) -> Result<(), OutOfMemory>
 // Adds the line of a derived event, if it occurs.
 fn put_event(
     out: &mut Vec<u8>,
+    lead: &str,
     program: &Program,
     unit: &Unit,
     points: &[Point],
 ) -> Result<(), OutOfMemory>
     ensures { OnOk result (out.new.items ≡ out.old.items ++ text_of_lines
-        (event_lines (unit_atom program.now unit.now) points.now)) }
+        (behind lead.now (event_lines (unit_atom program.now unit.now) points.now))) }
 {
     if points.is_empty() {
         return Ok(());
     }
-    put_row_front(out, program, unit)?;
+    put_row_front(out, lead, program, unit)?;
     put_points(out, points)?;
     put_text(out, "\n")
 }
@@ -142,17 +158,19 @@ fn put_event(
 // Adds the lines of a unit.
 fn put_unit(
     out: &mut Vec<u8>,
+    lead: &str,
     program: &Program,
     q: Point,
     unit: &Unit,
     rows: &UnitRows,
 ) -> Result<(), OutOfMemory>
     ensures { OnOk result (out.new.items
-        ≡ out.old.items ++ text_of_lines (unit_lines program.now q unit.now (published rows.now))) }
+        ≡ out.old.items ++ text_of_lines (behind lead.now (unit_lines program.now q unit.now
+        (published rows.now)))) }
 {
     match rows {
-        UnitRows::Fluent(rows) => put_fluents(out, program, q, unit, rows.as_slice()),
-        UnitRows::Event(points) => put_event(out, program, unit, points.as_slice()),
+        UnitRows::Fluent(rows) => put_fluents(out, lead, program, q, unit, rows.as_slice()),
+        UnitRows::Event(points) => put_event(out, lead, program, unit, points.as_slice()),
     }
 }
 
@@ -161,20 +179,28 @@ fn put_unit(
 // behind it.
 pub(crate) fn put_rows(
     publication: &Publication,
+    lead: &str,
     lines: &mut Vec<u8>,
     out: &mut Vec<u8>,
 ) -> Result<(), OutOfMemory>
     requires sound { IsSound publication.now.program }
     ensures added { OnOk result (out.new.items ≡ out.old.items ++ text_of_lines
-        (row_lines publication.now.program (right publication.now.program.plan
-        publication.now.number) (rows_in publication.now))) }
+        (behind lead.now (row_lines publication.now.program (right publication.now.program.plan
+        publication.now.number) (rows_in publication.now)))) }
     ensures kept { OnErr result (take (length out.old.items) out.new.items ≡ out.old.items) }
 {
     let program = publication.program();
     let q = program.plan.right(publication.number());
     for (number, unit) in program.units.as_slice().iter().enumerate() {
         lines.clear();
-        put_unit(lines, program, q, unit, publication.rows(number as u32))?;
+        put_unit(
+            lines,
+            lead,
+            program,
+            q,
+            unit,
+            publication.rows(number as u32),
+        )?;
         append(out, lines.as_slice())?;
     }
     Ok(())

@@ -6,14 +6,17 @@ use Rattle.std.proofs.lemmas.Slice.Zip.{zip_turn, zip_end}
 use Rattle.span_algebra.specs.Normal.{pairs}
 use Rattle.text_pieces.specs.Atoms.{unit_atom}
 use Rattle.text_pieces.specs.Lines.{text_of_lines}
-use Rattle.report_text.specs.Report.{value_words, fluent_lines}
+use Rattle.report_text.specs.Report.{value_words, fluent_lines, behind}
 use Rattle.text_pieces.proofs.LineTexts.{zip_push, zip_whole, grown}
+use Rattle.report_text.proofs.Leads.{behind_flat}
 use Rattle.report_text.proofs.rows.put_fluents.Goals as goal
 
 pub loop-value-preserved : goal.loop-value-preserved
 loop-value-preserved c =
     let words : List (List ℕ) = c.value_words.result.now in
-    let lines = fluent_lines c.args.q (unit_atom c.args.program.now c.args.unit.now) in
+    let lines : List ℕ × List (ℕ × ℕ) → List (List ℕ) =
+    λ row. behind c.args.lead.now (fluent_lines c.args.q
+    (unit_atom c.args.program.now c.args.unit.now) row) in
     let are : words ≡ value_words (slice_get c.args.program.now.names c.args.unit.now.name) =
     c.value_words.ensures in
     let text : List (List ℕ) → ℕ → List ℕ =
@@ -41,9 +44,11 @@ returns c =
     let words : List (List ℕ) = c.value_words.result.now in
     let are : words ≡ value_words (slice_get c.args.program.now.names c.args.unit.now.name) =
     c.value_words.ensures in
+    let lines : List ℕ × List (ℕ × ℕ) → List (List ℕ) =
+    fluent_lines c.args.q (unit_atom c.args.program.now c.args.unit.now) in
     let text : List (List ℕ × List (ℕ × ℕ)) → List ℕ =
     λ rows. c.args.out.now.items ++ text_of_lines
-    (flat_map (fluent_lines c.args.q (unit_atom c.args.program.now c.args.unit.now)) rows) in
+    (flat_map (λ row. behind c.args.lead.now (lines row)) rows) in
     let count = zip_end c.value_words.result.now c.args.rows.now c.loop-value.yielded
     c.into_iter-value-iterator.result c.loop-value.value-iterator c.next.new.self c.next.result
     (cc) (cc) c.loop-value.yielded_by c.in-None.is c.next.ensures.steps in
@@ -52,3 +57,6 @@ returns c =
     (zip w (map pairs c.args.rows.now)))) (sym are)
     ∙ ap text (zip_whole pairs words c.args.rows.now (length c.loop-value.yielded) count)
     ∙ ap (λ (w : List (List ℕ)). text (zip w (map pairs c.args.rows.now))) are
+    ∙ ap (λ (l : List (List ℕ)). c.args.out.now.items ++ text_of_lines l)
+    (sym (behind_flat c.args.lead.now lines (zip (value_words
+    (slice_get c.args.program.now.names c.args.unit.now.name)) (map pairs c.args.rows.now))))

@@ -13,28 +13,29 @@ use Rattle.query_ask.specs.Right.{Parts, published, IsRightForItself}
 use Rattle.span_algebra.specs.declared.rows.UnitRows.{UnitRows}
 use Rattle.text_pieces.specs.Lines.{text_of_lines}
 use Rattle.text_pieces.proofs.LineTexts.{zip_push, zip_whole, grown}
-use Rattle.report_text.specs.Report.{unit_lines, row_lines}
+use Rattle.report_text.specs.Report.{unit_lines, row_lines, behind}
 use Rattle.report_text.specs.Printed.{rows_in}
 use Rattle.report_text.proofs.Counts.{rows_for_each}
+use Rattle.report_text.proofs.Leads.{behind_flat}
 use Rattle.report_text.proofs.rows.put_rows.Goals as goal
 
--- the lines of a unit and its rows
-abbrev lines : Parts → ℕ → ProgramUnit × PublishedRows → List (List ℕ)
-lines parts q p = unit_lines parts.program q p.0 p.1
+-- the lines of a unit and its rows, behind a lead
+abbrev lines : List ℕ → Parts → ℕ → ProgramUnit × PublishedRows → List (List ℕ)
+lines lead parts q p = behind lead (unit_lines parts.program q p.0 p.1)
 
 -- those of one unit more
-one_more : (parts : Parts) (q i : ℕ) (units : List ProgramUnit) (unit : ProgramUnit)
+one_more : (lead : List ℕ) (parts : Parts) (q i : ℕ) (units : List ProgramUnit) (unit : ProgramUnit)
     (row : UnitRows) → units ≡ parts.program.units → i < length units → unit ≡ get_or units i unit
     → slice_get parts.rows i ≡ Some row →
-    text_of_lines (flat_map (lines parts q) (take (i + 1) (zip parts.program.units
+    text_of_lines (flat_map (lines lead parts q) (take (i + 1) (zip parts.program.units
     (rows_in parts))))
-    ≡ text_of_lines (flat_map (lines parts q) (take i (zip parts.program.units (rows_in parts))))
-    ++ text_of_lines (unit_lines parts.program q unit (published row))
-one_more parts q i units unit row are inside is at =
+    ≡ text_of_lines (flat_map (lines lead parts q) (take i (zip parts.program.units (rows_in parts))))
+    ++ text_of_lines (behind lead (unit_lines parts.program q unit (published row)))
+one_more lead parts q i units unit row are inside is at =
     let found : slice_get parts.program.units i ≡ Some unit =
     subst (λ (l : List ProgramUnit). slice_get l i ≡ Some unit) are
     (slice_get_read units (length units) i unit refl inside is) in
-    zip_push (lines parts q) published parts.program.units parts.rows i unit row (
+    zip_push (lines lead parts q) published parts.program.units parts.rows i unit row (
       slice_get_within parts.program.units i unit found,
       slice_get_within parts.rows i row at,
       λ d. sym (get_or_from_slice_get parts.program.units i unit d found),
@@ -50,23 +51,24 @@ loop-number-preserved c =
     let are = c.as_slice-unit-items.ensures ∙ ap (λ (p : Program). p.units)
     (c.deref-2.ensures ∙ c.program-program.ensures) in
     let made = c.as_slice.ensures.value ∙ c.in_ok-put_unit.ensures
-    ∙ ap (λ (l : List ℕ). l ++ text_of_lines (unit_lines c.deref-in-loop-number.result.now q
-    c.unit-item.result (published c.rows.result.now))) c.clear.ensures.items
-    ∙ ap (λ (p : Program). text_of_lines (unit_lines p q c.unit-item.result
-    (published c.rows.result.now))) (c.deref-in-loop-number.ensures ∙ c.program-program.ensures) in
+    ∙ ap (λ (l : List ℕ). l ++ text_of_lines (behind c.args.lead.now
+    (unit_lines c.deref-in-loop-number.result.now q c.unit-item.result
+    (published c.rows.result.now)))) c.clear.ensures.items
+    ∙ ap (λ (p : Program). text_of_lines (behind c.args.lead.now (unit_lines p q
+    c.unit-item.result (published c.rows.result.now)))) (c.deref-in-loop-number.ensures ∙ c.program-program.ensures) in
     grown c.args.out.now.items _ _ _ _ c.loop-number.invariant
     (c.in_ok-append.ensures.added ∙ ap (λ (l : List ℕ). c.loop-number.out.items ++ l) made)
     ∙ ap (λ (l : List ℕ). c.args.out.now.items ++ l)
-    (sym (one_more parts q i c.as_slice-unit-items.result.now c.unit-item.result c.rows.result.now
+    (sym (one_more c.args.lead.now parts q i c.as_slice-unit-items.result.now c.unit-item.result c.rows.result.now
     are c.loop-number-test.true c.unit-item.is c.rows.ensures.row))
 
 -- those of all units
-all_units : (parts : Parts) (q i : ℕ) (units : List ProgramUnit) → units ≡ parts.program.units
-    → IsRightForItself parts → i ≤ length units → length units ≤ i →
-    text_of_lines (flat_map (lines parts q) (take i (zip parts.program.units (rows_in parts))))
-    ≡ text_of_lines (row_lines parts.program q (rows_in parts))
-all_units parts q i units are fits low high =
-    ap (λ (l : List (ProgramUnit × PublishedRows)). text_of_lines (flat_map (lines parts q) l))
+all_units : (lead : List ℕ) (parts : Parts) (q i : ℕ) (units : List ProgramUnit)
+    → units ≡ parts.program.units → IsRightForItself parts → i ≤ length units → length units ≤ i →
+    text_of_lines (flat_map (lines lead parts q) (take i (zip parts.program.units (rows_in parts))))
+    ≡ text_of_lines (behind lead (row_lines parts.program q (rows_in parts)))
+all_units lead parts q i units are fits low high =
+    ap (λ (l : List (ProgramUnit × PublishedRows)). text_of_lines (flat_map (lines lead parts q) l))
     (zip_whole published parts.program.units parts.rows i
     (omega (
       arith,
@@ -76,6 +78,8 @@ all_units parts q i units are fits low high =
       rows_for_each parts fits,
       length-map parts.rows published,
     )))
+    ∙ ap text_of_lines (sym (behind_flat lead (λ (p : ProgramUnit × PublishedRows).
+    unit_lines parts.program q p.0 p.1) (zip parts.program.units (rows_in parts))))
 
 pub returns-clause-added : goal.returns-clause-added
 returns-clause-added c =
@@ -87,6 +91,7 @@ returns-clause-added c =
     (c.deref.ensures ∙ c.program-program.ensures) c.number.ensures.number in
     c.loop-number.invariant
     ∙ ap (λ (l : List ℕ). c.args.out.now.items ++ l)
-    (all_units parts c.right-q.result c.loop-number.number c.as_slice-unit-items.result.now are
+    (all_units c.args.lead.now parts c.right-q.result c.loop-number.number c.as_slice-unit-items.result.now are
     c.number.ensures.right (omega (arith, c.loop-number.auto.number-end)) c.loop-number-test.false
-    ∙ ap (λ n. text_of_lines (row_lines parts.program n (rows_in parts))) q)
+    ∙ ap (λ n. text_of_lines (behind c.args.lead.now (row_lines parts.program n
+    (rows_in parts)))) q)
