@@ -1,7 +1,8 @@
 #!/usr/bin/env bash
 # Times the built program on scripts of many windows, with processor time and peak memory of each run: the workload of a
 # fleet, 100,000 and 1,000,000 adds and revokes over 48 windows; 65,536 units of which ten have events, over 256 windows;
-# 1,000,000 adds of one event in rising and in falling order; and a window of 1,000 steps.
+# 1,000,000 adds of one event in rising and in falling order; a window of 1,000 steps; and 1,000,000 questions beside as many
+# adds over the same fluents.
 # Usage: bench/sliding.sh [PROGRAM]; build it first (`rt run` in crates/rtec_main). It needs /usr/bin/time (GNU time).
 set -eu
 program=$(realpath "${1:-$(dirname "$0")/../crates/rtec_main/out/rtec_main}")
@@ -85,5 +86,9 @@ for name, points in [("rising", range(1, 1000001)), ("falling", range(1000000, 0
     well &= timed(f"1,000,000 adds in {name} order", "window(1000000).\nstep(1000000).\nqueries(1).\n" + lamp, [f"add,1,{at},up\n" for at in points] + ["seal\n"])
 
 well &= timed("a window of 1,000 steps", "window(1000).\nstep(1).\nqueries(1000).\n" + lamp, [line for k in range(1000) for line in [f"add,1,{k + 1 + (i * 37) % 1000},up\n" for i in range(16)] + ["seal\n"]])
+doors = f"window(10000).\nstep(10000).\nqueries(1).\ndomain d [{', '.join(numbered('d', 200))}].\ninput up(d).\nsimple on(d) [true].\ninitiatedAt(on(X)=true) :- happensAt(up(X)).\n"
+some = [f"add,1,{at},up,d{at % 200 + 1}\n" for at in range(1, 10000)] + ["seal\n"]
+well &= timed("10,000 adds, and 1,000,000 questions", doors, some + [f"ask,holds,{i % 10000 + 1},true,on,d{i % 200 + 1}\n" for i in range(1000000)])
+well &= timed("1,000,000 adds over the same", doors, [f"add,1,{i % 10000 + 1},up,d{i % 200 + 1}\n" for i in range(1000000)] + ["seal\n"])
 sys.exit(0 if well else 1)
 PYTHON

@@ -50,7 +50,7 @@ write("units", head + f"domain d [{entities('d', 256)}].\ninput e(d, d).\nsimple
 for name in ["pairs", "units"]:
     show(name, os.path.getsize(name), timed(program, "ground", name), 0)
 
-print("scripts of 1,000,000 records (read to their end, and not run, for the question at their end)")
+print("scripts of 1,000,000 records (read to their end, and not run, for the seals at their end)")
 lamp = head + "input up.\ninput down.\nsimple on [true].\ninitiatedAt(on=true) :- happensAt(up).\n"
 fleet = head + f"domain vessel [{entities('v', 200)}].\ndomain area [{entities('a', 5)}].\ninput enters(vessel, area).\ninput leaves(vessel, area).\nsimple within(vessel, area) [true].\ninitiatedAt(within(X, A)=true) :- happensAt(enters(X, A)).\n"
 crowd = head + f"domain d [{entities('d', 4096)}].\ninput e(d).\nsimple on [true].\ninitiatedAt(on=true) :- happensAt(e(X)).\n"
@@ -63,8 +63,8 @@ texts = {
 }
 for name, (description, atom) in texts.items():
     write("desc", description)
-    write("script", "".join(f"add,{random.randint(1, 8)},{random.randint(1, 1000000)},{atom()}\n" for _ in range(count)) + "ask,count\n")
-    took = show(name, os.path.getsize("script"), timed(program, "recognise", "desc", "script"), 10)
+    write("script", "".join(f"add,{random.randint(1, 8)},{random.randint(1, 1000000)},{atom()}\n" for _ in range(count)) + "seal\n" * 1025)
+    took = show(name, os.path.getsize("script"), timed(program, "recognise", "desc", "script"), 5)
     lines = timed("wc", "-l", "script")[0]
     ordered = timed("sort", "script")[0]
     print(f"{'':36s} {count / took / 1000:.2f} million records a second; {took / lines:.1f} times `wc -l`, {took / ordered:.2f} times `sort`")

@@ -1,5 +1,5 @@
 -- A course stays abreast of its history.
-use Rattle.std.proofs.Common.{◌≡◌, ℕ, ◌+◌, ◌-◌, ◌<◌, true, false, ◌&&◌}
+use Rattle.std.proofs.Common.{◌≡◌, ℕ, zero, suc, ◌+◌, ◌-◌, ◌<◌, true, false, ◌&&◌}
 use Rattle.std.proofs.Common.{List, [], ◌∷◌, ◌++◌, map, length, drop, slice_get, Some, refl}
 use Rattle.std.proofs.Common.{sym, ◌∙◌, ap, ap₂, subst, arith, append_assoc, append-nil}
 use Rattle.std.proofs.Common.{length-append}
@@ -8,26 +8,43 @@ use Rattle.std.specs.List.{list_all, flat_map, range_with_len}
 use Rattle.std.proofs.Math.Seq.{drop-append_seam}
 use Rattle.std.proofs.lemmas.Bool.Decides.{nat_tests}
 use Rattle.std.proofs.lemmas.List.Elements.{All-nil, All-cons}
+use Rattle.std.proofs.lemmas.Option.{same_Some}
 use Rattle.ground_types.specs.History.{is_seal, seals, IsLegal}
-use Rattle.ground_types.specs.Publication.{publication}
+use Rattle.ground_types.specs.Publication.{Published, publication}
 use Rattle.ground_types.specs.Touched.{evaluations}
 use Rattle.ground_types.specs.declared.entries.Entry.{Entry}
 use Rattle.ground_types.specs.declared.entries.Entry.TheVariants.{Fed, Seal}
 use Rattle.ground_types.specs.declared.program.Program.{Program}
+use Rattle.ground_types.specs.Sound.{IsSound}
+use Rattle.ground_types.specs.declared.entries.Command.TheVariants.{Ask}
+use Rattle.ground_types.specs.declared.entries.Query.{Query}
+use Rattle.ground_types.specs.declared.entries.Query.TheVariants as query
 use Rattle.query_ask.specs.Right.{Parts}
+use Rattle.query_ask.specs.Answers.{said, answered, AreOfProgram, is_of_program, IsAsked}
+use Rattle.query_ask.specs.declared.answers.Answer.{Answer}
+use Rattle.publish_shelf.specs.Listed.{MayFollow}
+use Rattle.stream_read.specs.Scripts.{IsOfProgram}
 use Rattle.admit_core.specs.Log.{Log, IsKept, IsOfLog, AreOfLog}
-use Rattle.delay_revise.proofs.Staying.{seals_append}
+use Rattle.delay_revise.proofs.Staying.{seals_append, says_publication}
 use Rattle.delay_revise.specs.Revising.{Revising, IsPublished, MayTake, is_of, number_of, closed}
 use Rattle.text_pieces.specs.Lines.{text_of_lines}
-use Rattle.report_text.specs.Printed.{rows_in, block_of, block_in, AreOf, IsCounted, AreCounted}
-use Rattle.report_text.specs.Report.{block_lines, entry_lines}
-use Rattle.rtec_main.specs.Coursing.{ArePublished, reviser_of, publications, IsAbreast, Publishes}
+use Rattle.report_text.specs.Printed.{block_at, AreOf, AreSound, IsCounted, AreCounted}
+use Rattle.report_text.specs.Report.{block_lines, entry_lines, answer_lines, ask_lines}
+use Rattle.report_text.proofs.Wholes.{block_is}
+use Rattle.rtec_main.specs.Coursing.{ArePublished, reviser_of, IsAbreast, IsNextOn, IsNext, Publishes}
 use Rattle.rtec_main.specs.declared.course.Course.{Course}
 
 -- what a longer history keeps of what is published
 abbrev pub Stays : Type 0
 Stays = (program : Program) (before more : List Entry) (k : ℕ) (parts : Parts)
     → IsPublished program before k parts → IsPublished program (before ++ more) k parts
+
+-- where publications are those of a history, the lines of an answer are those of its report
+abbrev pub IsAnswer : Type 0
+IsAnswer = (program : Program) (history : List Entry) (list : List Parts) (asked : Query)
+    → AreOf program history list → AreOfProgram program list
+    → answer_lines program (block_at list) asked (answered program.plan (map said list) asked)
+    ≡ ask_lines program history asked
 
 -- ---- publications of a history that grows
 
@@ -51,13 +68,14 @@ published_push program history k n (first ∷ rest) parts are e is = (
   published_push program history (k + 1) n rest parts are.1 (omega (arith, e)) is,
 )
 
-rows_published : (program : Program) (history : List Entry) (k : ℕ) (list : List Parts)
+said_published : (program : Program) (history : List Entry) (k : ℕ) (list : List Parts)
     → ArePublished program history k list
-    → map rows_in list ≡ map (λ j. (publication program history j).rows)
-    (range_with_len k (length list))
-rows_published program history k [] are = refl
-rows_published program history k (parts ∷ rest) are =
-    ap₂ (λ r more. r ∷ more) are.0.rows (rows_published program history (k + 1) rest are.1)
+    → map said list ≡ map (publication program history) (range_with_len k (length list))
+said_published program history k [] are = refl
+said_published program history k (parts ∷ rest) are =
+    ap₂ (λ (p : Published) (more : List Published). p ∷ more)
+    (says_publication program history k parts are.0)
+    (said_published program history (k + 1) rest are.1)
 
 evaluations_published : (program : Program) (history : List Entry) (k : ℕ) (list : List Parts)
     → ArePublished program history k list
@@ -67,6 +85,26 @@ evaluations_published program history k [] are = refl
 evaluations_published program history k (parts ∷ rest) are =
     ap₂ (λ (r : ℕ) (more : List ℕ). r ∷ more) are.0.evaluations_are
     (evaluations_published program history (k + 1) rest are.1)
+
+published_at : (program : Program) (history : List Entry) (k j n : ℕ) (list : List Parts)
+    (parts : Parts) → ArePublished program history k list → slice_get list j ≡ Some parts
+    → n ≡ k + j → IsPublished program history n parts
+published_at program history k j n [] parts are at e = absurd cc
+published_at program history k zero n (first ∷ rest) parts are at e =
+    let same : k ≡ n = omega arith in
+    subst (λ i. IsPublished program history i parts) same
+    (subst (IsPublished program history k) (same_Some first parts at) are.0)
+published_at program history k (suc j) n (first ∷ rest) parts are at e =
+    published_at program history (k + 1) j n rest parts are.1 at (omega arith)
+
+of_program : (program : Program) (history : List Entry) (list : List Parts)
+    → ArePublished program history 0 list → AreOfProgram program list
+of_program program history list are = record {
+  numbers = λ j parts at. (published_at program history 0 j j list parts are at
+      (omega arith)).number;
+  programs = λ j parts at. (published_at program history 0 j j list parts are at
+      (omega arith)).program_is;
+}
 
 -- ---- the chunk of a seal
 
@@ -164,7 +202,7 @@ no_seal (Seal number) fed = absurd cc
 pub abreast_fed : Stays → (old new : Course) (entry : Entry) → is_seal entry ≡ false
     → IsAbreast old → new.names ≡ old.names
     → new.log ≡ record old.log { history = old.log.history ++ entry ∷ [] }
-    → new.reviser ≡ old.reviser → publications new ≡ publications old → IsAbreast new
+    → new.reviser ≡ old.reviser → new.board ≡ old.board → IsAbreast new
 abreast_fed stays old new entry fed a names log reviser list =
     let history : new.log.history ≡ old.log.history ++ entry ∷ [] =
     ap (λ (l : Log). l.history) log in
@@ -181,10 +219,10 @@ abreast_fed stays old new entry fed a names log reviser list =
       joined = sym (append_assoc a.taken a.rest (entry ∷ []))
           ∙ ap (λ h. h ++ entry ∷ []) a.joined ∙ sym history;
       unsealed = omega (arith, seals_append a.rest (entry ∷ []), none, a.unsealed);
-      published = subst (λ p. ArePublished p new.log.history 0 (publications new)) (sym names)
-          (subst (λ h. ArePublished old.names h 0 (publications new)) (sym history)
+      published = subst (λ p. ArePublished p new.log.history 0 new.board) (sym names)
+          (subst (λ h. ArePublished old.names h 0 new.board) (sym history)
           (subst (ArePublished old.names (old.log.history ++ entry ∷ []) 0) (sym list)
-          (published_grow stays old.names old.log.history (entry ∷ []) 0 (publications old)
+          (published_grow stays old.names old.log.history (entry ∷ []) 0 old.board
           a.published)));
       each = omega (
         arith,
@@ -245,8 +283,8 @@ abreast_sealed stays old mid new before now a is p =
     let names : new.names ≡ old.names = p.names ∙ ap (λ (c : Course). c.names) is in
     let log : new.log ≡ record old.log { history = history } =
     p.log ∙ ap (λ (c : Course). c.log) is in
-    let list : publications new ≡ publications old ++ p.parts ∷ [] =
-    p.list ∙ ap (λ (c : Course). publications c ++ p.parts ∷ []) is in
+    let list : new.board ≡ old.board ++ p.parts ∷ [] =
+    p.board ∙ ap (λ (c : Course). c.board ++ p.parts ∷ []) is in
     let reviser : new.reviser ≡ reviser_of old.names old.log.cap history =
     p.reviser ∙ ap closed (opened_reviser old mid a is) in
     record {
@@ -259,17 +297,17 @@ abreast_sealed stays old mid new before now a is p =
           ∙ ap₂ (λ p c. reviser_of p c history) (sym names) (sym (ap (λ (l : Log). l.cap) log));
       joined = append-nil history ∙ sym (ap (λ (l : Log). l.history) log);
       unsealed = refl;
-      published = subst (λ p. ArePublished p new.log.history 0 (publications new)) (sym names)
-          (subst (λ h. ArePublished old.names h 0 (publications new))
+      published = subst (λ p. ArePublished p new.log.history 0 new.board) (sym names)
+          (subst (λ h. ArePublished old.names h 0 new.board)
           (sym (ap (λ (l : Log). l.history) log))
           (subst (ArePublished old.names history 0) (sym list)
-          (published_push old.names history 0 (seals old.log.history) (publications old) p.parts
-          (published_grow stays old.names old.log.history seal 0 (publications old) a.published)
+          (published_push old.names history 0 (seals old.log.history) old.board p.parts
+          (published_grow stays old.names old.log.history seal 0 old.board a.published)
           (omega (arith, a.each)) (published_last old mid new before now a is p))));
       each = omega (
         arith,
         ap length list,
-        length-append (publications old) (p.parts ∷ []),
+        length-append old.board (p.parts ∷ []),
         a.each,
         ap (λ (l : Log). seals l.history) log,
         seals_append old.log.history seal,
@@ -277,13 +315,16 @@ abreast_sealed stays old mid new before now a is p =
       );
     }
 
-block_is : (program : Program) (history : List Entry) (k : ℕ) (parts : Parts)
-    → IsPublished program history k parts → block_in parts ≡ block_lines program history k
-block_is program history k parts is =
-    ap (λ p. block_of p parts.number (rows_in parts) parts.evaluations) is.program_is
-    ∙ ap (λ n. block_of program n (rows_in parts) parts.evaluations) is.number
-    ∙ ap (λ r. block_of program k r parts.evaluations) is.rows
-    ∙ ap (λ n. block_of program k (publication program history k).rows n) is.evaluations_are
+-- and may go on the board
+pub next_there : (old mid : Course) → IsAbreast old → mid ≡ opened old → IsNext mid
+next_there old mid a is =
+    let reviser = opened_reviser old mid a is in
+    let board : old.board ≡ mid.board = sym (ap (λ (c : Course). c.board) is) in
+    subst (λ (b : List Parts). IsNextOn mid.reviser b) board
+    (subst (λ (r : Revising). IsNextOn r old.board) (sym reviser) (record {
+      number = last_number old.log.history ∙ sym a.each;
+      programs = (of_program old.names old.log.history old.board a.published).programs;
+    }))
 
 -- the block that is added is that of the seal
 pub sealed_text : (old mid new : Course) (before now : List ℕ) → IsAbreast old
@@ -292,23 +333,70 @@ pub sealed_text : (old mid new : Course) (before now : List ℕ) → IsAbreast o
     (Seal (seals old.log.history) ∷ []))
 sealed_text old mid new before now a is p =
     let history : List Entry = sealed_history old.log.history in
+    let last = published_last old mid new before now a is p in
     p.block
     ∙ ap (λ lines. before ++ text_of_lines lines)
-    (block_is old.names history (seals old.log.history) p.parts
-    (published_last old mid new before now a is p)
+    (block_is old.names history (seals old.log.history) p.parts last.number last.program_is
+    last.rows last.evaluations_are
     ∙ sym (append-nil (block_lines old.names history (seals old.log.history))))
 
 -- for each seal its publication is there
 pub all_published : (course : Course) → IsAbreast course
-    → AreOf course.names course.log.history (publications course)
+    → AreOf course.names course.log.history course.board
 all_published course a = record {
-  rows = rows_published course.names course.log.history 0 (publications course) a.published
-      ∙ ap (λ n. map (λ j. (publication course.names course.log.history j).rows)
-      (range_with_len 0 n)) a.each;
-  evaluations = evaluations_published course.names course.log.history 0 (publications course)
+  published = said_published course.names course.log.history 0 course.board a.published
+      ∙ ap (λ n. map (publication course.names course.log.history) (range_with_len 0 n)) a.each;
+  evaluations = evaluations_published course.names course.log.history 0 course.board
       a.published
       ∙ ap (λ n. map (evaluations course.names course.log.history) (range_with_len 0 n)) a.each;
 }
+
+pub follows : (reviser : Revising) (board : List Parts) (parts : Parts) → IsNextOn reviser board
+    → IsPublished reviser.program reviser.taken (number_of reviser) parts → MayFollow board parts
+follows reviser board parts next is = record {
+  number = is.number ∙ next.number;
+  program = λ j other at. next.programs j other at ∙ sym is.program_is;
+}
+
+-- a question over the board is one over publications of the program
+question_of : (program : Program) (query : Query) → IsOfProgram program (Ask query)
+    → is_of_program program query ≡ true
+question_of program (query.Holds unit v t) is = is
+question_of program query.Count is = refl
+question_of program (query.Block number) is = refl
+
+pub asked_there : (course : Course) (query : Query) → IsSound course.names → IsAbreast course
+    → IsOfProgram course.names (Ask query) → IsAsked course.board query
+asked_there course query sound a is = record {
+  program = course.names;
+  sound = sound;
+  members = of_program course.names course.log.history course.board a.published;
+  question = question_of course.names query is;
+}
+
+pub sound_there : (course : Course) → IsSound course.names → IsAbreast course
+    → AreSound course.board
+sound_there course sound a j parts at = subst IsSound
+    (sym ((of_program course.names course.log.history course.board a.published).programs j parts
+    at)) sound
+
+-- the text of the answer
+pub asked_text : (course : Course) (query : Query) (answer : Answer) (program : Program)
+    (list : List Parts) → IsAbreast course → IsAnswer → program ≡ course.names
+    → list ≡ course.board
+    → ((program : Program) → AreOfProgram program list
+    → answer ≡ answered program.plan (map said list) query)
+    → answer_lines program (block_at list) query answer
+    ≡ ask_lines course.names course.log.history query
+asked_text course query answer program list a law names board is =
+    let members : AreOfProgram course.names list = subst (AreOfProgram course.names) (sym board)
+    (of_program course.names course.log.history course.board a.published) in
+    ap (λ (p : Program). answer_lines p (block_at list) query answer) names
+    ∙ ap (answer_lines course.names (block_at list) query) (is course.names members)
+    ∙ ap (λ (l : List Parts). answer_lines course.names (block_at l) query
+    (answered course.names.plan (map said l) query)) board
+    ∙ law course.names course.log.history course.board query (all_published course a)
+    (of_program course.names course.log.history course.board a.published)
 
 counted_from : (program : Program) (history : List Entry) (k : ℕ) (list : List Parts)
     → IsCounted program → ArePublished program history k list → AreCounted list
@@ -319,6 +407,6 @@ counted_from program history k (parts ∷ rest) counted are =
     (counted_from program history (k + 1) rest counted are.1)
 
 pub all_counted : (course : Course) → IsCounted course.names → IsAbreast course
-    → AreCounted (publications course)
+    → AreCounted course.board
 all_counted course counted a =
-    counted_from course.names course.log.history 0 (publications course) counted a.published
+    counted_from course.names course.log.history 0 course.board counted a.published

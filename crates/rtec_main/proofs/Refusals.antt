@@ -39,8 +39,6 @@ script_says old new described name program runs (script.BadRecord number) why =
     inr (record { program = program; runs = runs; is_script = why })
 script_says old new described name program runs script.TooMany why =
     inr (record { program = program; runs = runs; is_script = why })
-script_says old new described name program runs script.Asks why =
-    inr (record { program = program; runs = runs; is_script = why })
 script_says old new described name program runs script.Seals why =
     inr (record { program = program; runs = runs; is_script = why })
 script_says old new described name program runs script.Occurrences why =
@@ -129,8 +127,6 @@ script_outcome_is program text before now (script.BadRecord number) why well =
     inr (sym (short_outcome program text _ why.0 why.1))
 script_outcome_is program text before now script.TooMany why well =
     inr (sym (short_outcome program text _ why.0 why.1))
-script_outcome_is program text before now script.Asks why well =
-    inr (sym (commands_outcome_is program text script.Asks why))
 script_outcome_is program text before now script.Seals why well =
     inr (sym (commands_outcome_is program text script.Seals why))
 script_outcome_is program text before now script.Occurrences why well =

@@ -2,7 +2,7 @@
 use Rattle.std.proofs.Common.{◌≡◌, ℕ, zero, suc, ◌+◌, ◌<◌, ◌≤◌, Bool, cond, List, [], ◌∷◌, ◌++◌}
 use Rattle.std.proofs.Common.{length, take, slice_index_or, Option, refl, sym, ◌∙◌, ap, ap₂}
 use Rattle.std.proofs.Common.{subst, arith, drop, length-append, append-nil, take-append-drop}
-use Rattle.std.specs.List.{flat_map, count_by}
+use Rattle.std.specs.List.{count_by}
 use Rattle.std.proofs.lemmas.List.{map-append, take_more}
 use Rattle.std.proofs.lemmas.List.Sums.{sum_by-append, sum_by-cons}
 use Rattle.ground_types.specs.History.{seals, is_seal as is_seal_entry}
@@ -16,13 +16,13 @@ use Rattle.stream_read.specs.declared.script.Placed.{Placed}
 use Rattle.stream_read.specs.Scripts.{IsOfProgram, AreOfProgram}
 use Rattle.text_pieces.specs.Lines.{text_of_lines}
 use Rattle.text_pieces.proofs.LineTexts.{text_append}
-use Rattle.report_text.specs.Report.{entries_of, history_after, history_of, entry_lines}
+use Rattle.report_text.specs.Report.{entries_of, history_after, history_of, lines_of}
 use Rattle.report_text.specs.Report.{command_lines}
 use Rattle.report_text.specs.Report.{end_lines, report_text}
 use Rattle.report_text.specs.Printed.{end_of, AreOf}
 use Rattle.report_text.proofs.Wholes.{history_goes_on, lines_go_on, ends_are_whole}
 use Rattle.query_ask.specs.Right.{Parts}
-use Rattle.rtec_main.specs.Coursing.{HasPlace, IsAbreast, publications}
+use Rattle.rtec_main.specs.Coursing.{HasPlace, IsAbreast}
 use Rattle.rtec_main.specs.Writes.{IsOnWay, IsCut}
 use Rattle.rtec_main.specs.declared.course.Course.{Course}
 use Rattle.rtec_main.proofs.Courses.{all_published}
@@ -113,16 +113,13 @@ lines_more : (program : Program) (all : List Placed) (i : ℕ) (other : Placed)
     → i < length all
     → text_of_lines (command_lines program [] (commands_of (take (i + 1) all)))
     ≡ text_of_lines (command_lines program [] (commands_of (take i all)))
-    ++ text_of_lines (flat_map (entry_lines program
-    (history_of program.plan (commands_of (take i all))))
-    (entries_of program.plan (history_of program.plan (commands_of (take i all)))
-    (slice_index_or all i other).command))
+    ++ text_of_lines (lines_of program (history_of program.plan (commands_of (take i all)))
+    (slice_index_or all i other).command)
 lines_more program all i other inside =
     let before : List Command = commands_of (take i all) in
     let made : Command = (slice_index_or all i other).command in
     let history : List Entry = history_of program.plan before in
-    let lines : List (List ℕ) =
-    flat_map (entry_lines program history) (entries_of program.plan history made) in
+    let lines : List (List ℕ) = lines_of program history made in
     ap (λ c. text_of_lines (command_lines program [] c)) (commands_more all i other inside)
     ∙ ap text_of_lines (lines_go_on program [] before (made ∷ []))
     ∙ text_append (command_lines program [] before) (lines ++ [])
@@ -134,13 +131,12 @@ pub text_next : (names program : Program) (history : List Entry) (all : List Pla
     (other : Placed) → names ≡ program
     → history ≡ history_of program.plan (commands_of (take i all)) → i < length all
     → text_of_lines (command_lines program [] (commands_of (take i all)))
-    ++ text_of_lines (flat_map (entry_lines names history)
-    (entries_of names.plan history (slice_index_or all i other).command))
+    ++ text_of_lines (lines_of names history (slice_index_or all i other).command)
     ≡ text_of_lines (command_lines program [] (commands_of (take (i + 1) all)))
 text_next names program history all i other same is inside =
     let before : List ℕ = text_of_lines (command_lines program [] (commands_of (take i all))) in
-    ap₂ (λ (p : Program) (h : List Entry). before ++ text_of_lines (flat_map (entry_lines p h)
-    (entries_of p.plan h (slice_index_or all i other).command))) same is
+    ap₂ (λ (p : Program) (h : List Entry). before ++ text_of_lines (lines_of p h
+    (slice_index_or all i other).command)) same is
     ∙ sym (lines_more program all i other inside)
 
 -- the whole text of commands begins with that of the first ones
@@ -269,7 +265,7 @@ pub report_whole : (course : Course) (program : Program) (given all : List Place
     (history : List Entry) (list : List Parts) → IsAbreast course → course.names ≡ program
     → given ≡ all → history ≡ course.log.history
     → course.log.history ≡ history_of program.plan (commands_of given)
-    → list ≡ publications course
+    → list ≡ course.board
     → text_of_lines (command_lines program [] (commands_of given))
     ++ text_of_lines (end_of history ignored list)
     ≡ report_text program (commands_of all) ignored

@@ -1,30 +1,21 @@
 -- The commands of scripts: how many entries they make, and whether they run.
 use Rattle.std.proofs.Common.{◌≡◌, ◌<◌, ◌≤◌, ℕ, ◌+◌, ◌-◌, ◌*◌, ◌/◌, ◌^◌, nat_lt, Bool, false}
-use Rattle.std.proofs.Common.{◌||◌, if◌then◌else◌, List, [], ◌∷◌, refl, ap, ◌∙◌, arith}
+use Rattle.std.proofs.Common.{if◌then◌else◌, List, ap, ◌∙◌, arith}
 use Rattle.std.proofs.Math.Nat.{mul-le-mul_left}
 use Rattle.std.proofs.lemmas.Bool.Decides.{nat_tests}
 use Rattle.std.proofs.lemmas.Nat.{le-div}
-use Rattle.std.specs.List.{list_any}
 use Rattle.rt_base.specs.declared.limit.Limit.TheVariants as limit
 use Rattle.ground_types.specs.Windows.{IsSoundPlan}
 use Rattle.ground_types.specs.declared.entries.Command.{Command}
 use Rattle.ground_types.specs.declared.plan.Plan.{Plan}
-use Rattle.stream_read.specs.declared.script.Placed.{Placed}
 use Rattle.rtec_main.specs.Reads.{DoNotRun, script_status}
 use Rattle.rtec_main.specs.Run.{commands_outcome}
-use Rattle.rtec_main.specs.Script.{commands_of, seal_count, feed_count, entry_count}
-use Rattle.rtec_main.specs.Script.{windows_of_event, exceeds_seals, exceeds_occurrences, DoRun}
+use Rattle.rtec_main.specs.Script.{seal_count, feed_count, entry_count}
+use Rattle.rtec_main.specs.Script.{windows_of_event, exceeds_occurrences, DoRun}
 use Rattle.rtec_main.specs.declared.script.ScriptRefused.{ScriptRefused}
 use Rattle.rtec_main.specs.declared.script.ScriptRefused.TheVariants as script
 use Rattle.run_status.specs.declared.status.Status.{Status}
 use Rattle.run_status.specs.declared.status.Status.TheVariants as status
-
--- ---- a test of commands, without their places
-
-pub any_placed : (test : Command → Bool) (placed : List Placed)
-    → list_any test (commands_of placed) ≡ list_any (λ p. test p.command) placed
-any_placed test [] = refl
-any_placed test (p ∷ placed) = ap (λ b. test p.command || b) (any_placed test placed)
 
 -- ---- how many entries they make
 
@@ -53,22 +44,17 @@ few_entries plan commands sound some run =
 
 -- ---- what they come to
 
-abbrev outcome_by : Bool → Bool → Bool → Status
-outcome_by asks seals occurrences =
-    if asks then status.NotBuilt 1 else if seals then status.TooLarge limit.Seals
+abbrev outcome_by : Bool → Bool → Status
+outcome_by seals occurrences =
+    if seals then status.TooLarge limit.Seals
     else if occurrences then status.TooLarge limit.Occurrences else status.Done
 
 pub not_run_outcome : (plan : Plan) (commands : List Command) (refused : ScriptRefused)
     → DoNotRun plan commands refused → commands_outcome plan commands ≡ script_status refused
-not_run_outcome plan commands script.Asks h =
-    ap (λ a. outcome_by a (exceeds_seals plan commands) (exceeds_occurrences plan commands)) h
 not_run_outcome plan commands script.Seals h =
-    ap (λ a. outcome_by a (exceeds_seals plan commands) (exceeds_occurrences plan commands)) h.0
-    ∙ ap (λ s. outcome_by false s (exceeds_occurrences plan commands)) h.1
+    ap (λ s. outcome_by s (exceeds_occurrences plan commands)) h
 not_run_outcome plan commands script.Occurrences h =
-    ap (λ a. outcome_by a (exceeds_seals plan commands) (exceeds_occurrences plan commands)) h.0
-    ∙ ap (λ s. outcome_by false s (exceeds_occurrences plan commands)) h.1
-    ∙ ap (outcome_by false false) h.2
+    ap (λ s. outcome_by s (exceeds_occurrences plan commands)) h.0 ∙ ap (outcome_by false) h.1
 not_run_outcome plan commands script.Fault h = absurd h
 not_run_outcome plan commands script.TooLong h = absurd h
 not_run_outcome plan commands (script.BadRecord number) h = absurd h
@@ -78,7 +64,5 @@ not_run_outcome plan commands script.OutOfMemory h = absurd h
 pub run_outcome : (plan : Plan) (commands : List Command) → DoRun plan commands
     → commands_outcome plan commands ≡ status.Done
 run_outcome plan commands run =
-    ap (λ a. outcome_by a (exceeds_seals plan commands) (exceeds_occurrences plan commands))
-    run.asks_none
-    ∙ ap (λ s. outcome_by false s (exceeds_occurrences plan commands)) run.seals_few
-    ∙ ap (outcome_by false false) run.occurrences_few
+    ap (λ s. outcome_by s (exceeds_occurrences plan commands)) run.seals_few
+    ∙ ap (outcome_by false) run.occurrences_few

@@ -1,6 +1,6 @@
 -- For private functions alone: what a run has come to after some of its commands.
-use Rattle.std.specs.Prelude.{◌≡◌, ◌<◌, ℕ, ◌+◌, false, List, [], ◌∷◌, ◌++◌, map, length}
-use Rattle.std.specs.Arc.{arc_value}
+use Rattle.std.specs.Prelude.{◌≡◌, ◌<◌, ℕ, ◌+◌, false, List, [], ◌∷◌, ◌++◌, length, slice_get}
+use Rattle.std.specs.Prelude.{Some}
 use Rattle.ground_types.specs.History.{seals}
 use Rattle.ground_types.specs.declared.entries.Command.{Command}
 use Rattle.ground_types.specs.declared.entries.Command.TheVariants as command
@@ -31,10 +31,6 @@ reviser_of program cap taken = record {
   kept = none_kept program;
 }
 
--- the publications of a course
-abbrev pub publications : Course → List Parts
-publications course = map arc_value course.list.items
-
 -- Log and reviser are of one program. The reviser has taken the history up to its last seal, and
 -- for each seal there is a publication.
 pub record IsAbreast (course : Course) : Type 0 where
@@ -45,8 +41,18 @@ pub record IsAbreast (course : Course) : Type 0 where
   pub reviser : course.reviser ≡ reviser_of course.names course.log.cap taken
   pub joined : taken ++ rest ≡ course.log.history
   pub unsealed : seals rest ≡ 0
-  pub published : ArePublished course.names course.log.history 0 (publications course)
-  pub each : length (publications course) ≡ seals course.log.history
+  pub published : ArePublished course.names course.log.history 0 course.board
+  pub each : length course.board ≡ seals course.log.history
+
+-- what is published of the open chunk may follow these
+pub record IsNextOn (reviser : Revising) (board : List Parts) : Type 0 where
+  pub number : number_of reviser ≡ length board
+  pub programs : (j : ℕ) (parts : Parts) → slice_get board j ≡ Some parts →
+      parts.program ≡ reviser.program
+
+-- and go on the board
+abbrev pub IsNext : Course → Type 0
+IsNext course = IsNextOn course.reviser course.board
 
 -- there is room for the entry of a command, and a query for a seal
 abbrev pub HasPlace : Log → Command → Type 0
@@ -54,11 +60,11 @@ HasPlace log (command.Feed feeder act event at) = length log.history < log.cap
 HasPlace log command.Seal = (length log.history < log.cap) × (seals log.history < log.plan.queries)
 HasPlace log other = Unit {0}
 
--- a publication of the open chunk is made, its block is added, and it joins the list
+-- a publication of the open chunk is made, its block is added, and it goes on the board
 pub record Publishes (old new : Course) (before now : List ℕ) : Type 0 where
   pub parts : Parts
   pub is : IsPublished old.reviser.program old.reviser.taken (number_of old.reviser) parts
-  pub list : publications new ≡ publications old ++ parts ∷ []
+  pub board : new.board ≡ old.board ++ parts ∷ []
   pub reviser : new.reviser ≡ closed old.reviser
   pub names : new.names ≡ old.names
   pub log : new.log ≡ old.log

@@ -57,7 +57,7 @@ abbrev first_commands : List Command
 first_commands = Feed 1 Add 0 3 ∷ Feed 1 Add 1 7 ∷ Feed 1 Add 0 9 ∷ Seal ∷ []
 
 they_run : DoRun lamp.plan first_commands
-they_run = record { asks_none = refl; seals_few = refl; occurrences_few = refl }
+they_run = record { seals_few = refl; occurrences_few = refl }
 
 first_report : report_text lamp first_commands 0
     ≡ text_of_lines

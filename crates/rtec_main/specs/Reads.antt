@@ -27,7 +27,7 @@ use Rattle.stream_read.specs.declared.script.StreamRefused.{StreamRefused}
 use Rattle.stream_read.specs.declared.script.StreamRefused.TheVariants as stream
 use Rattle.rtec_main.specs.Described.{IsDescribed, TooLong as TooLongText, Faulty, Exceeds}
 use Rattle.rtec_main.specs.Described.{Describes, IsProgramOf}
-use Rattle.rtec_main.specs.Script.{longest, merged, HasCommands, has_ask, exceeds_seals}
+use Rattle.rtec_main.specs.Script.{longest, merged, HasCommands, exceeds_seals}
 use Rattle.rtec_main.specs.Script.{exceeds_occurrences}
 use Rattle.rtec_main.specs.declared.reads.Unread.{Unread}
 use Rattle.rtec_main.specs.declared.reads.Unread.TheVariants.{Fault, TooLong, OutOfMemory}
@@ -149,11 +149,9 @@ ungrounded grounding.OutOfMemory = description.OutOfMemory
 
 -- why commands do not run: the first test that they fail
 abbrev pub DoNotRun : Plan → List Command → ScriptRefused → Type 0
-DoNotRun plan commands script.Asks = has_ask commands ≡ true
-DoNotRun plan commands script.Seals = (has_ask commands ≡ false)
-    × (exceeds_seals plan commands ≡ true)
-DoNotRun plan commands script.Occurrences = (has_ask commands ≡ false)
-    × (exceeds_seals plan commands ≡ false) × (exceeds_occurrences plan commands ≡ true)
+DoNotRun plan commands script.Seals = exceeds_seals plan commands ≡ true
+DoNotRun plan commands script.Occurrences = (exceeds_seals plan commands ≡ false)
+    × (exceeds_occurrences plan commands ≡ true)
 DoNotRun plan commands other = ⊥
 
 -- why bytes are not a script that runs
@@ -164,8 +162,6 @@ IsScriptRefused program text (script.BadRecord number) = (length text ≤ longes
     × (merged program text ≡ Err (stream.BadRecord number))
 IsScriptRefused program text script.TooMany = (length text ≤ longest)
     × (merged program text ≡ Err stream.TooMany)
-IsScriptRefused program text script.Asks = HasCommands program text
-    (λ commands. DoNotRun program.plan commands script.Asks)
 IsScriptRefused program text script.Seals = HasCommands program text
     (λ commands. DoNotRun program.plan commands script.Seals)
 IsScriptRefused program text script.Occurrences = HasCommands program text
@@ -184,7 +180,6 @@ script_status script.Fault = status.ReadFault 1
 script_status script.TooLong = status.TooLarge limit.Script
 script_status (script.BadRecord number) = status.BadScript 1 number script_fault.BadRecord
 script_status script.TooMany = status.TooLarge limit.Commands
-script_status script.Asks = status.NotBuilt 1
 script_status script.Seals = status.TooLarge limit.Seals
 script_status script.Occurrences = status.TooLarge limit.Occurrences
 script_status script.OutOfMemory = status.OutOfMemory

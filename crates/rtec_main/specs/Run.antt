@@ -15,7 +15,7 @@ use Rattle.rtec_main.specs.Described.{Described, IsDescribed, TooLong, Faulty, E
 use Rattle.rtec_main.specs.Described.{IsProgramOf}
 use Rattle.ground_types.specs.declared.entries.Command.{Command}
 use Rattle.ground_types.specs.declared.plan.Plan.{Plan}
-use Rattle.rtec_main.specs.Script.{longest, merged, IsScriptOf, commands_of, HasCommands, has_ask}
+use Rattle.rtec_main.specs.Script.{longest, merged, IsScriptOf, commands_of, HasCommands}
 use Rattle.rtec_main.specs.Script.{exceeds_seals, exceeds_occurrences, DoRun}
 use Rattle.report_text.specs.Report.{report_text}
 use Rattle.ground_text.specs.GroundText.{ground_text}
@@ -141,7 +141,7 @@ pub record Meets (world : World) (description script : List ℕ) (P : Program �
   pub is_script : Told world script (P program)
 
 -- What a status says that refuses the script, which is input 1. Its length and its records are
--- tested before its asks, its seals and its occurrences.
+-- tested before its seals and its occurrences.
 abbrev pub RefusesScript : World → World → List ℕ → List ℕ → Status → Type 0
 RefusesScript old new description script (status.ReadFault (suc zero)) =
     Rose (old.faults script) (new.faults script)
@@ -154,15 +154,12 @@ RefusesScript old new description script (status.BadScript (suc zero) place faul
 RefusesScript old new description script (status.TooLarge limit.Commands) =
     Meets old description script (λ program text. (length text ≤ longest)
     × (merged program text ≡ Err refused.TooMany))
-RefusesScript old new description script (status.NotBuilt (suc zero)) =
-    Meets old description script (λ program text. HasCommands program text
-    (λ commands. has_ask commands ≡ true))
 RefusesScript old new description script (status.TooLarge limit.Seals) =
     Meets old description script (λ program text. HasCommands program text
-    (λ commands. (has_ask commands ≡ false) × (exceeds_seals program.plan commands ≡ true)))
+    (λ commands. exceeds_seals program.plan commands ≡ true))
 RefusesScript old new description script (status.TooLarge limit.Occurrences) =
     Meets old description script (λ program text. HasCommands program text
-    (λ commands. (has_ask commands ≡ false) × (exceeds_seals program.plan commands ≡ false)
+    (λ commands. (exceeds_seals program.plan commands ≡ false)
     × (exceeds_occurrences program.plan commands ≡ true)))
 RefusesScript old new description script other = ⊥
 
@@ -202,8 +199,7 @@ ReadWell old new name = Rose (old.faults name) (new.faults name) → ⊥
 -- the status that the commands of a script come to
 abbrev pub commands_outcome : Plan → List Command → Status
 commands_outcome plan commands =
-    if has_ask commands then status.NotBuilt 1
-    else if exceeds_seals plan commands then status.TooLarge limit.Seals
+    if exceeds_seals plan commands then status.TooLarge limit.Seals
     else if exceeds_occurrences plan commands then status.TooLarge limit.Occurrences
     else status.Done
 

@@ -1,10 +1,9 @@
--- Public contracts speak by this: merged scripts, and those that `recognise` runs: they ask
--- nothing, and are within the limits on seals and occurrences.
+-- Public contracts speak by this: merged scripts, and those that `recognise` runs: they are within
+-- the limits on seals and occurrences.
 use Rattle.std.specs.Prelude.{◌≡◌, ◌≤◌, ℕ, ◌+◌, ◌-◌, ◌*◌, ◌/◌, min, nat_lt, Bool, true, false, List}
 use Rattle.std.specs.Prelude.{length, map, count_by, Result, Ok}
-use Rattle.std.specs.List.{list_any}
 use Rattle.ground_types.specs.declared.entries.Command.{Command}
-use Rattle.ground_types.specs.declared.entries.Command.TheVariants.{Feed, Seal, Ask}
+use Rattle.ground_types.specs.declared.entries.Command.TheVariants.{Feed, Seal}
 use Rattle.ground_types.specs.declared.plan.Plan.{Plan}
 use Rattle.ground_types.specs.declared.program.Program.{Program}
 use Rattle.stream_read.specs.Scripts.{records_of, script_of}
@@ -29,10 +28,6 @@ pub record IsScriptOf (program : Program) (text : List ℕ) (found : Script) : T
 abbrev pub commands_of : List Placed → List Command
 commands_of placed = map (λ p. p.command) placed
 
-abbrev pub is_ask : Command → Bool
-is_ask (Ask query) = true
-is_ask command = false
-
 abbrev pub is_seal : Command → Bool
 is_seal Seal = true
 is_seal command = false
@@ -41,9 +36,6 @@ is_seal command = false
 abbrev pub is_feed : Command → Bool
 is_feed (Feed feeder act event at) = true
 is_feed command = false
-
-abbrev pub has_ask : List Command → Bool
-has_ask commands = list_any is_ask commands
 
 abbrev pub seal_count : List Command → ℕ
 seal_count commands = count_by is_seal commands
@@ -71,9 +63,8 @@ occurrences plan commands = feed_count commands * windows_of_event plan
 abbrev pub exceeds_occurrences : Plan → List Command → Bool
 exceeds_occurrences plan commands = nat_lt 16777216 (occurrences plan commands)
 
--- the commands run: none asks, and seals and occurrences are within their limits
+-- the commands run: seals and occurrences are within their limits
 pub record DoRun (plan : Plan) (commands : List Command) : Type 0 where
-  pub asks_none : has_ask commands ≡ false
   pub seals_few : exceeds_seals plan commands ≡ false
   pub occurrences_few : exceeds_occurrences plan commands ≡ false
 

@@ -7,22 +7,24 @@ ghost use Rattle.ground_types.specs.History.{seals, reply_to};
 ghost use Rattle.ground_types.specs.Sound.{IsSound};
 ghost use Rattle.ground_types.specs.declared.entries.Entry.{Entry};
 ghost use Rattle.ground_types.specs.declared.entries.Entry.TheVariants.{Fed, Seal};
+ghost use Rattle.ground_types.specs.declared.entries.Command.TheVariants.{Ask};
 ghost use Rattle.decl_known.specs.Sound.{is_sound_domain};
 ghost use Rattle.query_ask.specs.Right.{Parts};
 ghost use Rattle.delay_revise.specs.Revising.{MayTake, IsPublished, number_of, closed};
 ghost use Rattle.stream_read.specs.Scripts.{IsOfProgram};
 ghost use Rattle.text_pieces.specs.Lines.{text_of_lines};
-ghost use Rattle.report_text.specs.Report.{entries_of, entry_lines, entry_line};
+ghost use Rattle.report_text.specs.Report.{entries_of, entry_lines, entry_line, ask_lines, lines_of};
 ghost use Rattle.report_text.specs.Printed.{block_in};
-ghost use Rattle.rtec_main.specs.Coursing.{IsAbreast, HasPlace, publications, Publishes};
+ghost use Rattle.rtec_main.specs.Coursing.{IsAbreast, IsNext, HasPlace, Publishes};
 
 use admit_core::{AdmitState, LogFull};
 use delay_revise::{Reviser, published_stays};
 use ground_names::EventNames;
-use ground_types::{Act, Command, Entry, EventId, Point, Program};
+use ground_types::{Act, Command, Entry, EventId, Point, Program, Query};
 use layer_workers::OneByOne;
-use query_ask::Publication;
-use report_text::{EntryLine, put_block, put_entry};
+use publish_shelf::{Board, PlainBoard};
+use query_ask::ask;
+use report_text::{EntryLine, answer_law, put_answer, put_block, put_entry};
 use rt_base::{OutOfMemory, Steps};
 use std::alloc::Global;
 use std::marker::Brand;
@@ -41,7 +43,7 @@ pub struct Course<'a> {
     /// What makes the publications.
     pub reviser: Reviser,
     /// The publications, one for each seal.
-    pub list: Vec<Arc<Publication>>,
+    pub board: PlainBoard,
 }
 
 impl<'a> Course<'a> {
@@ -70,7 +72,7 @@ impl<'a> Course<'a> {
             line: EntryLine::new(alloc),
             log,
             reviser,
-            list: Vec::new(alloc),
+            board: PlainBoard::new(alloc),
         })
     }
 }
@@ -136,7 +138,7 @@ fn seal(course: &mut Course)
     course.reviser.take_chunk(&history[taken..]);
 }
 
-// Makes the publication of the open chunk and adds its block. It joins the list.
+// Makes the publication of the open chunk and adds its block. It goes on the board.
 fn publish<R: Threads + Sync>(
     rt: &R,
     course: &mut Course,
@@ -145,18 +147,35 @@ fn publish<R: Threads + Sync>(
 ) -> Result<(), OutOfMemory>
     requires chunk { course.old.reviser.has_chunk ≡ true }
     requires sound { IsSound course.old.reviser.program }
+    requires next { IsNext course.old }
     ensures publishes { OnOk result (Publishes course.old course.new text.old.items
         text.new.items) }
     ensures parts { steps.new.out ≡ steps.old.out }
 {
     let publication = course.reviser.revise(rt, &OneByOne, steps)?;
     put_block(&publication, text)?;
-    course.list.push(publication)?;
+    course.board.put(&publication)?;
     Ok(())
 }
 
-/// Adds what a command adds to a report: the line of an add or a revoke, the block of a seal, and
-/// nothing for another one. Where memory runs out, a part of it may be there.
+// Adds the answer to a question.
+fn put_ask(course: &Course, query: &Query, text: &mut Vec<u8>) -> Result<(), OutOfMemory>
+    requires sound { IsSound course.now.names }
+    requires abreast { IsAbreast course.now }
+    requires of_program { IsOfProgram course.now.names (Ask query.now) }
+    ensures { OnOk result (text.new.items ≡ text.old.items ++ text_of_lines
+        (ask_lines course.now.names course.now.log.history query.now)) }
+{
+    // (an answer over these publications is one of the report)
+    answer_law();
+    let list = course.board.list();
+    let answer = ask(list, query);
+    put_answer(course.names.program(), list, query, &answer, text)
+}
+
+/// Adds what a command adds to a report: the line of an add or a revoke, the block of a seal, the
+/// answer to a question, and nothing for another one. Where memory runs out, a part of it may be
+/// there.
 pub fn put_command<R: Threads + Sync>(
     rt: &R,
     course: &mut Course,
@@ -175,8 +194,7 @@ pub fn put_command<R: Threads + Sync>(
           ++ entries_of course.old.names.plan course.old.log.history command;
     }) }
     ensures text { OnOk result (text.new.items ≡ text.old.items ++ text_of_lines
-        (flat_map (entry_lines course.old.names course.old.log.history)
-        (entries_of course.old.names.plan course.old.log.history command))) }
+        (lines_of course.old.names course.old.log.history command)) }
     ensures parts { steps.new.out ≡ steps.old.out }
 {
     // (what is published stays right as the history grows)
@@ -192,6 +210,7 @@ pub fn put_command<R: Threads + Sync>(
             seal(course);
             publish(rt, course, steps, text)
         }
-        Command::Ask(_) | Command::Wait { .. } | Command::After { .. } => Ok(()),
+        Command::Ask(query) => put_ask(course, &query, text),
+        Command::Wait { .. } | Command::After { .. } => Ok(()),
     }
 }

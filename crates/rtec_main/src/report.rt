@@ -16,6 +16,7 @@ use crate::course::{Course, put_command};
 use crate::script::entry_count;
 use crate::writes::{Unwritten, hand_on};
 use ground_types::{Command, Program};
+use publish_shelf::Board;
 use report_text::put_end;
 use rt_base::{OutOfMemory, Sink, Steps};
 use std::alloc::Global;
@@ -91,7 +92,7 @@ fn put_report<R: Threads + Sync, K: Sink>(
 {
     put_commands(rt, course, steps, script.commands.as_slice(), out, text)?;
     let history = course.log.history();
-    put_end(script.ignored, history, course.list.as_slice(), text)?;
+    put_end(script.ignored, history, course.board.list(), text)?;
     hand_on(out, text, true)
 }
 

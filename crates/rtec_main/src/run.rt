@@ -113,9 +113,7 @@ fn ground<I: Inputs, K: Sink>(
 /// fault. TooLarge: a counted quantity exceeds its limit, with the first that does: the bytes of
 /// the description, then units, events, assignments, rules, conditions and cells, then the bytes
 /// and the records of the script, then its seals and its occurrences. BadScript: a record has no
-/// form, with the first. NotBuilt: the script of `recognise` has an ask (input 1), which is tested
-/// before its seals; `ground` is never answered so. ReadFault and WriteFault: the count of faults
-/// rose in this call. Each comes only where what is tested before it passed: the description before
+/// form, with the first. ReadFault and WriteFault: the count of faults rose in this call. Each comes only where what is tested before it passed: the description before
 /// the script, and of each its faults of reading, its length, its content. All but Done, WriteFault
 /// and want of memory write nothing. The report is written as it is made, so after WriteFault and
 /// want of memory the sink has a beginning of it. Want of memory alone has no cause. `complete`

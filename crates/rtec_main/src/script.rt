@@ -2,8 +2,7 @@
 ghost use Rattle.std.specs.Prelude.{◌≡◌, ◌<◌, ◌≤◌, ◌^◌, ℕ, List, length, OnOk, IfOk, IfErr, IfSome};
 ghost use Rattle.ground_types.specs.Sound.{IsSound};
 ghost use Rattle.ground_types.specs.Windows.{IsSoundPlan};
-ghost use Rattle.rtec_main.specs.Script.{commands_of, is_ask, is_seal, is_feed, has_ask};
-ghost use Rattle.rtec_main.specs.Script.{seal_count};
+ghost use Rattle.rtec_main.specs.Script.{commands_of, is_seal, is_feed, seal_count};
 ghost use Rattle.rtec_main.specs.Script.{feed_count, entry_count, windows_of_event, exceeds_seals};
 ghost use Rattle.rtec_main.specs.Script.{exceeds_occurrences, DoRun, IsScriptOf};
 ghost use Rattle.rtec_main.specs.Reads.{DoNotRun, IsScriptRefused, IsWhyNoScript};
@@ -33,8 +32,6 @@ pub enum ScriptRefused {
     BadRecord { number: u32 },
     /// It has more than 2,097,152 records.
     TooMany,
-    /// One of its commands is an ask.
-    Asks,
     /// It has more seals than there are queries.
     Seals,
     /// Its adds and revokes, times the windows that one event may lie in, are more than 16,777,216.
@@ -90,7 +87,6 @@ impl From<ScriptRefused> for Status {
             ScriptRefused::TooMany => Status::TooLarge {
                 limit: Limit::Commands,
             },
-            ScriptRefused::Asks => Status::NotBuilt { input: 1 },
             ScriptRefused::Seals => Status::TooLarge {
                 limit: Limit::Seals,
             },
@@ -100,13 +96,6 @@ impl From<ScriptRefused> for Status {
             ScriptRefused::OutOfMemory => Status::OutOfMemory,
         }
     }
-}
-
-// Whether a command is an ask.
-fn is_ask(placed: &Placed) -> bool
-    ensures { result ≡ is_ask placed.now.command }
-{
-    matches!(placed.command, Command::Ask(_))
 }
 
 // Whether a command is a seal.
@@ -121,13 +110,6 @@ fn is_feed(placed: &Placed) -> bool
     ensures { result ≡ is_feed placed.now.command }
 {
     matches!(placed.command, Command::Feed { .. })
-}
-
-// Whether one of the commands is an ask.
-fn has_ask(commands: &[Placed]) -> bool
-    ensures { result ≡ has_ask (commands_of commands.now) }
-{
-    commands.iter().any(is_ask)
 }
 
 // How many of the commands are seals.
@@ -181,9 +163,6 @@ fn test(plan: &Plan, commands: &[Placed]) -> Result<(), ScriptRefused>
     ensures ok { OnOk result (DoRun plan.now (commands_of commands.now)) }
     ensures err { IfErr result (DoNotRun plan.now (commands_of commands.now)) }
 {
-    if has_ask(commands) {
-        return Err(ScriptRefused::Asks);
-    }
     if exceeds_seals(plan, commands) {
         return Err(ScriptRefused::Seals);
     }

@@ -14,4 +14,3 @@ number_of (status.ReadFault input) = 6
 number_of status.WriteFault = 7
 number_of status.OutOfMemory = 8
 number_of (status.Differs number line) = 9
-number_of (status.NotBuilt input) = 10

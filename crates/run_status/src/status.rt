@@ -89,10 +89,6 @@ pub enum Status {
         number: u32,
         line: u32,
     },
-    /// The script is of a form that does not run yet.
-    NotBuilt {
-        input: u8,
-    },
 }
 
 impl Status {
@@ -112,7 +108,6 @@ impl Status {
             Status::WriteFault => 7,
             Status::OutOfMemory => 8,
             Status::Differs { .. } => 9,
-            Status::NotBuilt { .. } => 10,
         }
     }
 }
@@ -166,7 +161,6 @@ impl fmt::Display for Status {
             Status::WriteFault => write!(f, "output could not be written"),
             Status::OutOfMemory => write!(f, "out of memory"),
             Status::Differs { line, .. } => write!(f, "report differs at line {line}"),
-            Status::NotBuilt { input } => write!(f, "input {input} is not built"),
         }
     }
 }

@@ -7,6 +7,7 @@ use std::alloc::Global;
 use std::test::Fail;
 use std::thread::Threads;
 
+mod asks;
 mod descriptions;
 mod faults;
 mod histories;

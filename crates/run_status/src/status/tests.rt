@@ -44,7 +44,6 @@ fn statuses_have_their_numbers_and_lines(rt: HostRuntime) -> Result<(), Fail> {
             Status::Differs { number: 0, line: 5 },
             "9 report differs at line 5",
         ),
-        (Status::NotBuilt { input }, "10 input 1 is not built"),
     ];
     for (status, line) in rows {
         let found = told(rt.alloc(), status)?;

@@ -1,4 +1,4 @@
-use Rattle.std.proofs.Common.{◌≡◌, ◌++◌, [], map, ap, sym, subst, refl}
+use Rattle.std.proofs.Common.{◌≡◌, ◌++◌, [], map, sym, subst, refl}
 use Rattle.std.specs.Arc.{arc_value}
 use Rattle.std.proofs.lemmas.Result.{on_ok_weaker, on_err_weaker}
 use Rattle.text_pieces.specs.Lines.{text_of_lines}
@@ -24,7 +24,7 @@ pub put_end-requires : goal.put_end-requires
 put_end-requires g c =
     let done = c.in_ok-put_commands.ensures in
     record {
-      counted = subst (λ list. AreCounted (map arc_value list)) (sym c.as_slice-2.ensures.value)
+      counted = subst AreCounted (sym c.list.ensures.list)
           (all_counted c.put_commands.new.course (subst IsCounted (sym done.names)
           c.requires.counted) done.abreast);
     }
@@ -41,15 +41,15 @@ returns-in_err-put_end-clause-err g c =
 whole : (g : Over) (c : In_ok-put_end g)
     → text_of_lines (command_lines c.args.course.now.names [] (commands_of c.as_slice.result.now))
     ++ text_of_lines (end_of c.history-history.result.now c.args.script.now.ignored
-    (map arc_value c.as_slice-2.result.now))
+    (map arc_value c.list.result.now))
     ≡ report_text c.args.course.now.names (commands_of c.args.script.now.commands)
     c.args.script.now.ignored
 whole g c =
     let done = c.in_ok-put_commands.ensures in
     report_whole c.put_commands.new.course c.args.course.now.names c.as_slice.result.now
     c.args.script.now.commands c.args.script.now.ignored c.history-history.result.now
-    (map arc_value c.as_slice-2.result.now) done.abreast done.names c.as_slice.ensures
-    c.history-history.ensures.list done.history (ap (map arc_value) c.as_slice-2.ensures.value)
+    (map arc_value c.list.result.now) done.abreast done.names c.as_slice.ensures
+    c.history-history.ensures.list done.history c.list.ensures.list
 
 pub returns-clause-ok : goal.returns-clause-ok
 returns-clause-ok g c =

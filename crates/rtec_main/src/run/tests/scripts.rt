@@ -83,20 +83,15 @@ fn the_first_record_without_a_form_is_named(rt: HostRuntime) -> Result<(), Fail>
     Ok(())
 }
 
-// Asks are tested first, then seals.
 #[test]
-fn commands_that_do_not_run_are_said_so(rt: HostRuntime) -> Result<(), Fail> {
-    let asks = "10 input 1 is not built\n";
+fn more_seals_than_queries_do_not_run(rt: HostRuntime) -> Result<(), Fail> {
     let one_seal = "0 \nquery 0 window (0,10] evaluations 0\nignored 0\n\
         entries 0 admitted 0 delayed 0 already 0 revoked 0 delayed-revoked 0 unknown 0 forgotten \
         0\n\
         queries 1 spans 0 points 0 evaluations 0\n";
     for (script, wanted) in [
-        ("ask,count\n", asks),
-        ("add,1,3,up\nask,holds,8,true,on\nseal\n", asks),
-        ("add,1,3,up\nseal\nask,block,0\n", asks),
-        ("seal\nseal\nask,count\n", asks),
         ("seal\nseal\n", "5 too large: seals\n"),
+        ("ask,count\nseal\nseal\n", "5 too large: seals\n"),
         ("seal\n", one_seal),
     ] {
         let found = of_changed_lamp(&rt, "from(0).", "from(0).\nqueries(1).", script)?;
@@ -210,7 +205,11 @@ fn seals_and_occurrences_are_bounded(rt: HostRuntime) -> Result<(), Fail> {
         ("seal\n", 1024, "0 "),
         ("add,1,1,up\nseal\n", 1025, "5 too large: seals"),
         ("add,1,1,up\nseal\n", 16_385, "5 too large: seals"),
-        ("add,1,1,up\nask,count\n", 16_385, "10 input 1 is not built"),
+        (
+            "add,1,1,up\nask,count\n",
+            16_385,
+            "5 too large: occurrences",
+        ),
     ] {
         let script = records.repeat(rt.alloc(), count)?;
         let found = recognised(&rt, description.as_str(), script.as_str())?;
