@@ -1,0 +1,6 @@
+mod Places
+mod Ordered
+mod Claimed
+mod Holdings
+mod Sealing
+mod Runs

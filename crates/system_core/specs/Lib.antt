@@ -1,0 +1,4 @@
+pub mod Core
+pub mod Claiming
+pub mod Holding
+pub mod Examples
