@@ -1,10 +1,11 @@
 -- Public contracts speak by this: the words of commands, and what they ask for. All of it is our
 -- own.
-use Rattle.std.specs.Prelude.{ℕ, ◌+◌, ◌-◌, ◌*◌, nat_le, Bool, true, false, not, ◌==◌, ◌&&◌, ◌||◌}
-use Rattle.std.specs.Prelude.{if◌then◌else◌, List, [], ◌∷◌, ◌++◌, length, take, drop, codes, fold}
+use Rattle.std.specs.Prelude.{ℕ, ◌+◌, nat_le, Bool, true, false, not, ◌==◌, ◌&&◌, ◌||◌}
+use Rattle.std.specs.Prelude.{if◌then◌else◌, List, [], ◌∷◌, ◌++◌, length, take, drop, codes}
 use Rattle.std.specs.Prelude.{Option, Some, None, is_some, option_and_then, option_map}
 use Rattle.std.specs.List.{list_all, list_any, before_first, after_first}
 use Rattle.std.specs.Str.{bytes_eq}
+use Rattle.std.specs.Str.Parse.{digits_value}
 use Rattle.std.specs.Char.{is_ascii_digit}
 
 abbrev pub Text : Type 0
@@ -88,9 +89,9 @@ flagged None reading = if reading.given.is_full then None
 
 -- an option by its whole name
 abbrev pub named : Text → Option Text → Reading → Option Reading
-named name value reading = if bytes_eq name (codes "workers") then valued Workers value reading
-    else if bytes_eq name (codes "feeders") then valued Feeders value reading
-    else if bytes_eq name (codes "full") then flagged value reading
+named name value reading = if bytes_eq (codes "workers") name then valued Workers value reading
+    else if bytes_eq (codes "feeders") name then valued Feeders value reading
+    else if bytes_eq (codes "full") name then flagged value reading
     else None
 
 abbrev pub placed : Text → Reading → Option Reading
@@ -113,7 +114,7 @@ read_wanted None word reading = if reading.is_ended then placed word reading
 abbrev pub read_word : Reading → Text → Option Reading
 read_word reading word = read_wanted reading.wants word reading
 
-unfoldable pub read_words : Option Reading → List Text → Option Reading
+abbrev pub read_words : Option Reading → List Text → Option Reading
 read_words reading [] = reading
 read_words reading (word ∷ words) =
     read_words (option_and_then (λ r. read_word r word) reading) words
@@ -132,11 +133,6 @@ given_by words = option_and_then whole (read_words (Some (record {
 
 -- ---- numbers
 
--- the number that these digits continue, from that of the digits before them
-abbrev pub value_from : ℕ → Text → ℕ
-value_from n [] = n
-value_from n (c ∷ cs) = value_from (10 * n + (c - 48)) cs
-
 -- one decimal digit or more, and no more than these
 abbrev pub are_digits : ℕ → Text → Bool
 are_digits most text = list_all is_ascii_digit text && nat_le 1 (length text)
@@ -144,8 +140,9 @@ are_digits most text = list_all is_ascii_digit text && nat_le 1 (length text)
 
 -- a number of at most so many digits, leading zeros allowed, within its bounds, both allowed
 abbrev pub number_in : ℕ → ℕ → ℕ → Text → Option ℕ
-number_in digits least most text = if are_digits digits text && nat_le least (value_from 0 text)
-    && nat_le (value_from 0 text) most then Some (value_from 0 text) else None
+number_in digits least most text = if are_digits digits text
+    && nat_le least (digits_value 10 text) && nat_le (digits_value 10 text) most
+    then Some (digits_value 10 text) else None
 
 abbrev pub seed_of : Text → Option ℕ
 seed_of text = number_in 20 0 18446744073709551615 text
