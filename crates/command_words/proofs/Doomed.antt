@@ -16,7 +16,8 @@ use Rattle.clap.specs.Faults.{flags_fault}
 use Rattle.clap.specs.declared.error.kind.ErrorKind.{ErrorKind}
 use Rattle.clap.specs.declared.error.kind.ErrorKind.TheVariants as kind
 use Rattle.command_words.specs.Words.{shape_of, Plain, Dashed, Long}
-use Rattle.command_words.specs.Matching.{AreTexts, is_dashed}
+use Rattle.command_words.specs.Matching.{is_dashed}
+use Rattle.command_words.specs.Words.{AreTexts}
 use Rattle.command_words.proofs.Grammar.{top, rules}
 use Rattle.command_words.proofs.Shown.{places_built}
 

@@ -18,8 +18,8 @@ use Rattle.clap.specs.declared.parser.matches.ArgMatches.{ArgMatches}
 use Rattle.clap.specs.declared.parser.matches.ValueSource.TheVariants.{DefaultValue}
 use Rattle.clap.proofs.FaultLemmas.{leaf_fault}
 use Rattle.clap.proofs.WalkLemmas.{first_value-rows, raw_values-rows, one_text-rows}
-use Rattle.command_words.specs.Words.{Given, given_by}
-use Rattle.command_words.specs.Matching.{grammar, flag_text, listed, Holds, AreTexts, AreMatches}
+use Rattle.command_words.specs.Words.{Given, given_by, AreTexts}
+use Rattle.command_words.specs.Matching.{grammar, flag_text, listed, Holds, AreMatches}
 use Rattle.command_words.specs.Matching.{IsDoubtful}
 use Rattle.command_words.proofs.Grammar.{top, rules, no_subs}
 use Rattle.command_words.proofs.Rows.{pick, other_kept, same_added, added}

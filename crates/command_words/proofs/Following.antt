@@ -12,7 +12,8 @@ use Rattle.clap.specs.Faults.{turn_fault, walk_fault, settle_fault}
 use Rattle.clap.specs.declared.error.kind.ErrorKind.TheVariants as kind
 use Rattle.command_words.specs.Words.{Given, Reading, Valued, Workers, Feeders, read_word, read_words}
 use Rattle.command_words.specs.Words.{whole, with_place, shape_of, Long, nothing_given}
-use Rattle.command_words.specs.Matching.{AreTexts, IsDoubtful, is_dashed}
+use Rattle.command_words.specs.Matching.{IsDoubtful, is_dashed}
+use Rattle.command_words.specs.Words.{AreTexts}
 use Rattle.command_words.proofs.Grammar.{top, rules}
 use Rattle.command_words.proofs.Shown.{Shows, places_built, workers_built, feeders_built, full_built}
 use Rattle.command_words.proofs.Shown.{place_shown, workers_shown, feeders_shown, full_shown}

@@ -1,7 +1,9 @@
 mod Rows
+mod Digits
 mod Grammar
 mod Shown
 mod Doomed
 mod Doubts
 mod Following
 mod Ending
+mod Asking

@@ -1,14 +1,18 @@
 -- For private functions alone: the command of `clap` by which words are read, and what its matches
 -- say.
 use Rattle.std.specs.Prelude.{◌≡◌, ℕ, Bool, true, false, not, ◌==◌, ◌||◌, List, [], ◌∷◌}
-use Rattle.std.specs.Prelude.{if◌then◌else◌, map, codes, Option, Some, None, option_map, length}
-use Rattle.std.specs.Str.{IsUtf8}
+use Rattle.std.specs.Prelude.{◌^◌, ◌+◌, ◌&&◌, nat_lt, nat_le, if◌then◌else◌, codes, Option, Some, None, option_map, length}
+use Rattle.std.specs.Borrow.{Bor}
+use Rattle.std.specs.List.{list_all}
+use Rattle.std.specs.Char.{is_ascii_digit}
+use Rattle.std.specs.Str.Parse.{digits_value}
 use Rattle.clap.specs.Words.{App, Rule, new_app, new_rule, with_rule, found_of, first_value, one_text}
 use Rattle.clap.specs.Words.{matched_of, raw_values}
 use Rattle.clap.specs.Simple.{on_top}
 use Rattle.clap.specs.declared.builder.action.ArgAction.TheVariants.{Append, SetTrue}
 use Rattle.clap.specs.declared.parser.matches.ArgMatches.{ArgMatches}
-use Rattle.command_words.specs.Words.{Text, Given}
+use Rattle.command_words.specs.Words.{Text, texts, is_file, Given}
+use Rattle.command_words.specs.declared.given.Given.{Given as LentGiven}
 
 -- files and other words in their places, of which there may be any number
 abbrev pub places_rule : Rule
@@ -65,7 +69,30 @@ AreMatches given None = IsDoubtful given
 AreMatches None (Some matches) = ⊥
 AreMatches (Some given) (Some matches) = Holds matches given
 
--- each word is text
-abbrev pub AreTexts : List Text → Type 0
-AreTexts [] = Unit {0}
-AreTexts (word ∷ words) = IsUtf8 word × AreTexts words
+abbrev pub lent_places : Option (Bor (List (Bor Text))) → List Text
+lent_places None = []
+lent_places (Some words) = texts words.now
+
+-- what is given, as it is lent
+abbrev pub plain_given : LentGiven → Given
+plain_given given = record {
+  places = lent_places given.places;
+  workers = option_map (λ v. v.now) given.workers;
+  feeders = option_map (λ v. v.now) given.feeders;
+  is_full = given.is_full;
+}
+
+-- one digit or more
+pub record Digits (text : Text) : Type 0 where
+  pub all : list_all is_ascii_digit text ≡ true
+  pub some : (length text == 0) ≡ false
+
+-- the number that digits write, where it has 64 bits
+abbrev pub value_of : Text → Option ℕ
+value_of text = if nat_lt (digits_value 10 text) (2 ^ 64) then Some (digits_value 10 text) else None
+
+-- the files of `live`, as they are lent
+abbrev pub are_lent_live : Text → Text → List (Bor Text) → ℕ → Bool
+are_lent_live description clock scripts feeders = is_file description && is_file clock
+    && list_all (λ word. is_file word.now) scripts && nat_le feeders (length scripts)
+    && nat_le (length scripts) (feeders + 8)

@@ -1,15 +1,27 @@
 -- Public contracts speak by this: the words of commands, and what they ask for. All of it is our
 -- own.
 use Rattle.std.specs.Prelude.{ℕ, ◌+◌, nat_le, Bool, true, false, not, ◌==◌, ◌&&◌, ◌||◌}
-use Rattle.std.specs.Prelude.{if◌then◌else◌, List, [], ◌∷◌, ◌++◌, length, take, drop, codes}
+use Rattle.std.specs.Prelude.{if◌then◌else◌, List, [], ◌∷◌, ◌++◌, length, take, drop, map, codes}
 use Rattle.std.specs.Prelude.{Option, Some, None, is_some, option_and_then, option_map}
+use Rattle.std.specs.Borrow.{Bor}
 use Rattle.std.specs.List.{list_all, list_any, before_first, after_first}
-use Rattle.std.specs.Str.{bytes_eq}
+use Rattle.std.specs.Str.{bytes_eq, IsUtf8}
 use Rattle.std.specs.Str.Parse.{digits_value}
 use Rattle.std.specs.Char.{is_ascii_digit}
+use Rattle.command_words.specs.declared.task.Task.{Task as LentTask}
+use Rattle.command_words.specs.declared.task.Task.TheVariants as lent
 
 abbrev pub Text : Type 0
 Text = List ℕ
+
+-- the texts behind references
+abbrev pub texts : List (Bor Text) → List Text
+texts = map (λ word. word.now)
+
+-- each word is text
+abbrev pub AreTexts : List Text → Type 0
+AreTexts [] = Unit {0}
+AreTexts (word ∷ words) = IsUtf8 word × AreTexts words
 
 -- ---- options and files
 
@@ -135,7 +147,7 @@ given_by words = option_and_then whole (read_words (Some (record {
 
 -- one decimal digit or more, and no more than these
 abbrev pub are_digits : ℕ → Text → Bool
-are_digits most text = list_all is_ascii_digit text && nat_le 1 (length text)
+are_digits most text = list_all is_ascii_digit text && not (length text == 0)
     && nat_le (length text) most
 
 -- a number of at most so many digits, leading zeros allowed, within its bounds, both allowed
@@ -175,6 +187,16 @@ pub data Task : Type 0 where
   -- workers
   Live : Text → Text → List Text → List Text → ℕ → Task
 
+-- a task that lends its words
+abbrev pub plain_task : LentTask → Task
+plain_task (lent.Recognise description script workers) =
+    Recognise description.now script.now workers
+plain_task (lent.Ground description) = Ground description.now
+plain_task (lent.Simulate description seed size workers is_full) =
+    Simulate description.now seed size workers is_full
+plain_task (lent.Live description clock feeders readers workers) =
+    Live description.now clock.now (texts feeders) (texts readers) workers
+
 -- a file name is not empty
 abbrev pub is_file : Text → Bool
 is_file word = not (length word == 0)
@@ -197,10 +219,13 @@ simulate_places (description ∷ seed ∷ size ∷ []) workers is_full =
 simulate_places places workers is_full = None
 
 -- at least as many scripts as feeders, and at most eight more, which are those of the readers
+abbrev pub are_live : List Text → List Text → ℕ → Bool
+are_live others scripts feeders = list_all is_file others && list_all is_file scripts
+    && nat_le feeders (length scripts) && nat_le (length scripts) (feeders + 8)
+
 abbrev pub live_files : List Text → ℕ → ℕ → Option Task
 live_files (description ∷ clock ∷ scripts) feeders workers =
-    if list_all is_file (description ∷ clock ∷ scripts) && nat_le feeders (length scripts)
-    && nat_le (length scripts) (feeders + 8)
+    if are_live (description ∷ clock ∷ []) scripts feeders
     then Some (Live description clock (take feeders scripts) (drop feeders scripts) workers)
     else None
 live_files places feeders workers = None
@@ -224,9 +249,9 @@ live given = if given.is_full then None
     else option_and_then (λ feeders. option_and_then (live_files given.places feeders)
     (workers_of given.workers)) (feeders_of given.feeders)
 
--- the command of a command word
-abbrev pub task_by : Text → Given → Option Task
-task_by command given = if bytes_eq command (codes "recognise") then recognise given
+-- what a command word asks for with what is given
+abbrev pub asked : Text → Given → Option Task
+asked command given = if bytes_eq command (codes "recognise") then recognise given
     else if bytes_eq command (codes "ground") then ground_text given
     else if bytes_eq command (codes "simulate") then simulate given
     else if bytes_eq command (codes "live") then live given
@@ -235,4 +260,4 @@ task_by command given = if bytes_eq command (codes "recognise") then recognise g
 -- the task of the words, where they are of a form: the command word is the first
 abbrev pub task_of : List Text → Option Task
 task_of [] = None
-task_of (command ∷ words) = option_and_then (task_by command) (given_by words)
+task_of (command ∷ words) = option_and_then (asked command) (given_by words)

@@ -3,8 +3,11 @@
 //! between them.
 #![tactic(auto)]
 
+mod given;
 mod matching;
 mod numbers;
+mod reading;
 mod task;
 
+pub use reading::{task_of, texts_of};
 pub use task::Task;

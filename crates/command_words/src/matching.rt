@@ -1,8 +1,8 @@
 // Options, and the words between them, as `clap` reads them.
-ghost use Rattle.std.specs.Prelude.{◌≡◌, IfOk, drop, map};
+ghost use Rattle.std.specs.Prelude.{◌≡◌, IfOk, drop};
 ghost use Rattle.clap.specs.Words.{app_of};
-ghost use Rattle.command_words.specs.Words.{given_by};
-ghost use Rattle.command_words.specs.Matching.{grammar, AreTexts, AreMatches};
+ghost use Rattle.command_words.specs.Words.{texts, given_by, AreTexts};
+ghost use Rattle.command_words.specs.Matching.{grammar, AreMatches};
 
 use clap::error::ErrorKind;
 use clap::{Arg, ArgAction, ArgMatches, Command};
@@ -32,8 +32,8 @@ pub(crate) fn matches_of<'a>(
     alloc: Global,
     words: &'a [&'a str],
 ) -> Result<Option<ArgMatches<'a>>, OutOfMemory>
-    requires { AreTexts (map (λ w. w.now) words.now) }
-    ensures { IfOk result (AreMatches (given_by (drop 1 (map (λ w. w.now) words.now)))) }
+    requires { AreTexts (texts words.now) }
+    ensures { IfOk result (AreMatches (given_by (drop 1 (texts words.now)))) }
 {
     let command = grammar(alloc)?;
     match command.try_get_matches_from(words) {

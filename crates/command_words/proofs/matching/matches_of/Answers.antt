@@ -1,8 +1,9 @@
-use Rattle.std.proofs.Common.{rules, ◌≡◌, ◌∙◌, map, ap, subst, inl, inr, sym}
+use Rattle.std.proofs.Common.{rules, ◌≡◌, ◌∙◌, ap, subst, inl, inr, sym}
 use Rattle.clap.specs.Simple.{HasMatchesOf, App}
 use Rattle.clap.specs.Values.{kind_of}
 use Rattle.clap.specs.Kinds.{IsAmong}
 use Rattle.clap.specs.Faults.{fault_of, is_simple_and_free}
+use Rattle.command_words.specs.Words.{texts}
 use Rattle.command_words.proofs.Grammar.{is_plain}
 use Rattle.command_words.proofs.Ending.{ok_answer, err_answer}
 use Rattle.command_words.proofs.matching.matches_of.Goals as goal
@@ -10,7 +11,7 @@ use Rattle.command_words.proofs.matching.matches_of.Goals as goal
 pub returns-in-Ok : goal.returns-in-Ok
 returns-in-Ok c =
     let is = c.in_ok-command.ensures in
-    let words = map (λ w. w.now) c.args.words.now in
+    let words = texts c.args.words.now in
     let kinds = c.in-Ok.ensures.kinds (ap is_simple_and_free is ∙ is_plain) in
     ok_answer words c.in-Ok.matches c.requires
     (ap (λ (a : App). fault_of a words) (sym is) ∙ kinds)
@@ -19,7 +20,7 @@ returns-in-Ok c =
 pub returns : goal.returns
 returns c =
     let is = c.in_ok-command.ensures in
-    let words = map (λ w. w.now) c.args.words.now in
+    let words = texts c.args.words.now in
     let kinds = c.in-Err.ensures.kinds (ap is_simple_and_free is ∙ is_plain) in
     elim kinds [
       | inl memory ↦ absurd (c.in_default.not-OutOfMemory (c.kind.ensures ∙ memory))

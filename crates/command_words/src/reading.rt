@@ -1,0 +1,208 @@
+// What the words of a command ask for.
+ghost use Rattle.std.specs.Prelude.{◌≡◌, ◌≤◌, ◌∷◌, [], IfOk, option_map};
+ghost use Rattle.std.specs.List.{list_all};
+ghost use Rattle.command_words.specs.Words.{texts, AreTexts, asked, is_file, ground_text, live, live_files};
+ghost use Rattle.command_words.specs.Words.{plain_task, recognise, recognise_files, simulate};
+ghost use Rattle.command_words.specs.Words.{simulate_places, task_of};
+ghost use Rattle.std.specs.Str.{IsUtf8};
+ghost use Rattle.command_words.specs.Matching.{plain_given, are_lent_live};
+
+use crate::given::{Given, given_of};
+use crate::matching::matches_of;
+use crate::numbers::{feeders_of, seed_of, size_of, workers_of};
+use crate::task::Task;
+use rt_base::{List, OutOfMemory, Word};
+use std::alloc::Global;
+
+// A file name is not empty.
+fn is_file(word: &str) -> bool
+    ensures { result ≡ is_file word.now }
+{
+    !word.is_empty()
+}
+
+// `DESC SCRIPT`.
+fn recognise<'a>(given: Given<'_, 'a>) -> Option<Task<'a>>
+    ensures { option_map plain_task result ≡ recognise (plain_given given.entry) }
+{
+    if given.feeders.is_some() || given.is_full {
+        return None;
+    }
+    let workers = workers_of(given.workers)?;
+    match given.places {
+        Some([description, script]) if is_file(description) && is_file(script) => {
+            Some(Task::Recognise {
+                description,
+                script,
+                workers,
+            })
+        }
+        _ => None,
+    }
+}
+
+// `DESC`.
+fn ground<'a>(given: Given<'_, 'a>) -> Option<Task<'a>>
+    ensures { option_map plain_task result ≡ ground_text (plain_given given.entry) }
+{
+    if given.workers.is_some() || given.feeders.is_some() || given.is_full {
+        return None;
+    }
+    match given.places {
+        Some([description]) if is_file(description) => Some(Task::Ground { description }),
+        _ => None,
+    }
+}
+
+// `DESC SEED SIZE`.
+fn simulate<'a>(given: Given<'_, 'a>) -> Option<Task<'a>>
+    ensures { option_map plain_task result ≡ simulate (plain_given given.entry) }
+{
+    if given.feeders.is_some() {
+        return None;
+    }
+    let workers = workers_of(given.workers)?;
+    let Some([description, seed, size]) = given.places else {
+        return None;
+    };
+    if !is_file(description) {
+        return None;
+    }
+    Some(Task::Simulate {
+        description,
+        seed: seed_of(seed)?,
+        size: size_of(size)?,
+        workers,
+        is_full: given.is_full,
+    })
+}
+
+// A copy of the references to some words.
+fn copy<'a>(alloc: Global, words: &[&'a str]) -> Result<List<&'a str>, OutOfMemory>
+    ensures { IfOk result (λ list. texts list ≡ texts words.now) }
+{
+    Ok(List::of(Vec::from_slice(alloc, words)?))
+}
+
+// Whether each word is a file name.
+fn are_files(words: &[&str]) -> bool
+    ensures { result ≡ list_all (λ word. is_file word.now) words.now }
+{
+    words.iter().all(|word| is_file(word))
+}
+
+// Whether these are the files of `live` for so many feeders.
+fn are_live(description: &str, clock: &str, scripts: &[&str], feeders: usize) -> bool
+    requires { feeders ≤ 8 }
+    ensures { result ≡ are_lent_live description.now clock.now scripts.now feeders }
+{
+    is_file(description)
+        && is_file(clock)
+        && are_files(scripts)
+        && feeders <= scripts.len()
+        && scripts.len() <= feeders + 8
+}
+
+// The files of `live`, for so many feeders and workers.
+fn live_files<'a>(
+    alloc: Global,
+    description: &'a str,
+    clock: &'a str,
+    scripts: &[&'a str],
+    feeders: usize,
+    workers: u8,
+) -> Result<Option<Task<'a>>, OutOfMemory>
+    requires { feeders ≤ 8 }
+    ensures { IfOk result (λ task. option_map plain_task task ≡ live_files (description.entry.now
+        ∷ clock.entry.now ∷ texts scripts.now) feeders workers) }
+{
+    if !are_live(description, clock, scripts, feeders) {
+        return Ok(None);
+    }
+    Ok(Some(Task::Live {
+        description,
+        clock,
+        feeders: copy(alloc, &scripts[..feeders])?,
+        readers: copy(alloc, &scripts[feeders..])?,
+        workers,
+    }))
+}
+
+// `DESC CLOCK`, then the scripts of the feeders, then those of the readers.
+fn live<'a>(alloc: Global, given: Given<'_, 'a>) -> Result<Option<Task<'a>>, OutOfMemory>
+    ensures { IfOk result (λ task. option_map plain_task task ≡ live (plain_given given.entry)) }
+{
+    if given.is_full {
+        return Ok(None);
+    }
+    let (Some(feeders), Some(workers)) = (feeders_of(given.feeders), workers_of(given.workers))
+    else {
+        return Ok(None);
+    };
+    match given.places {
+        Some([description, clock, scripts @ ..]) => {
+            live_files(alloc, description, clock, scripts, feeders, workers)
+        }
+        _ => Ok(None),
+    }
+}
+
+// What is given, asked for by a command word.
+fn asked<'a>(
+    alloc: Global,
+    command: &str,
+    given: Given<'_, 'a>,
+) -> Result<Option<Task<'a>>, OutOfMemory>
+    ensures { IfOk result (λ task. option_map plain_task task
+        ≡ asked command.now (plain_given given.entry)) }
+{
+    match command {
+        "recognise" => Ok(recognise(given)),
+        "ground" => Ok(ground(given)),
+        "simulate" => Ok(simulate(given)),
+        "live" => live(alloc, given),
+        _ => Ok(None),
+    }
+}
+
+/// The task of the words, if they are of a form. The first is the command word: `recognise` and
+/// two files, `ground` and a file, `simulate` with a file, a seed and a size, or `live` with a file,
+/// a clock's script, and those of feeders and readers. Options may stand at any place behind it:
+/// `--workers N`, `--feeders N` and `--full`, each as far as the command has it. Our own.
+pub fn task_of<'a>(
+    alloc: Global,
+    words: &'a [&'a str],
+) -> Result<Option<Task<'a>>, OutOfMemory>
+    requires { AreTexts (texts words.now) }
+    ensures { IfOk result (λ task. option_map plain_task task ≡ task_of (texts words.now)) }
+{
+    let Some(command) = words.first() else {
+        return Ok(None);
+    };
+    match matches_of(alloc, words)? {
+        Some(matches) => asked(alloc, command, given_of(&matches)),
+        None => Ok(None),
+    }
+}
+
+// A word, of which it is known that it is text.
+fn text_of(word: &Word) -> &str
+    ensures is { result.now ≡ word.now }
+    ensures text { IsUtf8 result.now }
+{
+    let text = word.as_str();
+    let _bytes = text.as_bytes();
+    text
+}
+
+/// The words as texts, which they lend.
+pub fn texts_of(alloc: Global, words: &[Word]) -> Result<Vec<&str>, OutOfMemory>
+    ensures is { IfOk result (λ lent. texts lent.items ≡ words.now) }
+    ensures texts { IfOk result (λ lent. AreTexts (texts lent.items)) }
+{
+    let mut lent = Vec::new(alloc);
+    for word in words {
+        lent.push(text_of(word))?;
+    }
+    Ok(lent)
+}
