@@ -1,7 +1,7 @@
 -- From what is given to what is asked for.
 use Rattle.std.proofs.Common.{◌≡◌, ◌∙◌, ℕ, Bool, true, false, refl, sym, ap, subst, List, [], ◌∷◌, ◌++◌}
-use Rattle.std.proofs.Common.{◌||◌, Option, Some, None, inl, inr, codes, true≢false, drop, map, take}
-use Rattle.std.specs.Prelude.{option_and_then, slice_get, is_some, ◌==◌}
+use Rattle.std.proofs.Common.{◌||◌, Option, Some, None, inl, inr, codes, true≢false, drop, take}
+use Rattle.std.specs.Prelude.{option_and_then, slice_get, is_some}
 use Rattle.std.specs.Option.{option_map_or}
 use Rattle.std.specs.Borrow.{Bor}
 use Rattle.std.specs.Str.{bytes_eq, IsUtf8}
@@ -14,7 +14,7 @@ use Rattle.std.proofs.Math.Seq.{take-length}
 use Rattle.std.proofs.lemmas.List.{length-map, length-drop, take-map, drop-map}
 use Rattle.std.proofs.lemmas.List.Folds.{list_all-map}
 use Rattle.clap.specs.declared.parser.matches.ArgMatches.{ArgMatches}
-use Rattle.command_words.specs.Words.{Text, Given, Task, texts, AreTexts, asked, given_by, task_of}
+use Rattle.command_words.specs.Words.{Text, Given, texts, AreTexts, asked, given_by, task_of}
 use Rattle.command_words.specs.Words.{is_file, recognise, ground_text, simulate, live, workers_of, feeders_of}
 use Rattle.command_words.specs.Words.{live_files, recognise_files, simulate_places, are_live, Live}
 use Rattle.command_words.specs.Matching.{Holds, AreMatches, IsDoubtful, has_dash, is_dashed}
@@ -39,7 +39,11 @@ second workers feeders doubt not = rw not at doubt
 no_recognise : (places : List Text) (workers feeders : Option Text) (full : Bool)
     → (has_dash workers || has_dash feeders) ≡ true
     → None ≡ recognise (record {
-      places = places; workers = workers; feeders = feeders; is_full = full })
+      places = places;
+      workers = workers;
+      feeders = feeders;
+      is_full = full;
+    })
 no_recognise places workers (Some f) full doubt = refl
 no_recognise places workers None true doubt = refl
 no_recognise places None None false doubt = absurd (true≢false (sym doubt))
@@ -51,7 +55,11 @@ no_recognise places (Some w) None false doubt = elim (cases_Bool (is_dashed w)) 
 no_ground : (places : List Text) (workers feeders : Option Text) (full : Bool)
     → (has_dash workers || has_dash feeders) ≡ true
     → None ≡ ground_text (record {
-      places = places; workers = workers; feeders = feeders; is_full = full })
+      places = places;
+      workers = workers;
+      feeders = feeders;
+      is_full = full;
+    })
 no_ground places (Some w) feeders full doubt = refl
 no_ground places None (Some f) full doubt = refl
 no_ground places None None full doubt = absurd (true≢false (sym doubt))
@@ -59,7 +67,11 @@ no_ground places None None full doubt = absurd (true≢false (sym doubt))
 no_simulate : (places : List Text) (workers feeders : Option Text) (full : Bool)
     → (has_dash workers || has_dash feeders) ≡ true
     → None ≡ simulate (record {
-      places = places; workers = workers; feeders = feeders; is_full = full })
+      places = places;
+      workers = workers;
+      feeders = feeders;
+      is_full = full;
+    })
 no_simulate places workers (Some f) full doubt = refl
 no_simulate places None None full doubt = absurd (true≢false (sym doubt))
 no_simulate places (Some w) None full doubt = elim (cases_Bool (is_dashed w)) [
@@ -70,7 +82,11 @@ no_simulate places (Some w) None full doubt = elim (cases_Bool (is_dashed w)) [
 no_live : (places : List Text) (workers feeders : Option Text) (full : Bool)
     → (has_dash workers || has_dash feeders) ≡ true
     → None ≡ live (record {
-      places = places; workers = workers; feeders = feeders; is_full = full })
+      places = places;
+      workers = workers;
+      feeders = feeders;
+      is_full = full;
+    })
 no_live places workers feeders true doubt = refl
 no_live places workers None false doubt = refl
 no_live places workers (Some f) false doubt = elim (cases_Bool (has_dash workers)) [
@@ -92,17 +108,17 @@ no_task : (command : Text) (given : Given) → (has_dash given.workers || has_da
 no_task command given doubt = elim (cases_Bool (bytes_eq command (codes "recognise"))) [
   | inl is ↦ rw is (no_recognise given.places given.workers given.feeders given.is_full doubt)
   | inr one ↦ elim (cases_Bool (bytes_eq command (codes "ground"))) [
-      | inl is ↦ rw (one, is) (no_ground given.places given.workers given.feeders given.is_full doubt)
-      | inr two ↦ elim (cases_Bool (bytes_eq command (codes "simulate"))) [
-          | inl is ↦ rw (one, two, is)
-              (no_simulate given.places given.workers given.feeders given.is_full doubt)
-          | inr three ↦ elim (cases_Bool (bytes_eq command (codes "live"))) [
-              | inl is ↦ rw (one, two, three, is)
-                  (no_live given.places given.workers given.feeders given.is_full doubt)
-              | inr four ↦ rw (one, two, three, four) refl
-            ]
-        ]
+    | inl is ↦ rw (one, is) (no_ground given.places given.workers given.feeders given.is_full doubt)
+    | inr two ↦ elim (cases_Bool (bytes_eq command (codes "simulate"))) [
+      | inl is ↦ rw (one, two, is)
+          (no_simulate given.places given.workers given.feeders given.is_full doubt)
+      | inr three ↦ elim (cases_Bool (bytes_eq command (codes "live"))) [
+        | inl is ↦ rw (one, two, three, is)
+            (no_live given.places given.workers given.feeders given.is_full doubt)
+        | inr four ↦ rw (one, two, three, four) refl
+      ]
     ]
+  ]
 ]
 
 by_given : (command : Text) (given : Option Given) → IsDoubtful given
@@ -138,8 +154,12 @@ pub unknown : (command : Text) (given : Given) → (command ≡ codes "recognise
     → (command ≡ codes "ground" → ⊥) → (command ≡ codes "simulate" → ⊥)
     → (command ≡ codes "live" → ⊥) → None ≡ asked command given
 unknown command given one two three four =
-    rw (no_equal command (codes "recognise") one, no_equal command (codes "ground") two,
-    no_equal command (codes "simulate") three, no_equal command (codes "live") four) refl
+    rw (
+      no_equal command (codes "recognise") one,
+      no_equal command (codes "ground") two,
+      no_equal command (codes "simulate") three,
+      no_equal command (codes "live") four,
+    ) refl
 
 -- one more text
 pub more_texts : (words : List Text) (word : Text) → AreTexts words → IsUtf8 word
@@ -184,10 +204,10 @@ pub live_task : (description clock : Text) (scripts : List (Bor Text)) (feeders 
     ≡ live_files (description ∷ clock ∷ texts scripts) feeders workers
 live_task description clock scripts feeders workers ones others is first then =
     let test : are_live (description ∷ clock ∷ []) (texts scripts) feeders ≡ true =
-        sym (live_is description clock scripts feeders) ∙ is in
+    sym (live_is description clock scripts feeders) ∙ is in
     let rest : take (length scripts - feeders) (drop feeders scripts) ≡ drop feeders scripts =
-        ap (λ n. take n (drop feeders scripts)) (sym (length-drop feeders scripts))
-        ∙ take-length (drop feeders scripts) in
+    ap (λ n. take n (drop feeders scripts)) (sym (length-drop feeders scripts))
+    ∙ take-length (drop feeders scripts) in
     rw test (ap₂ (λ a b. Some (Live description clock a b workers))
     (first ∙ sym (take-map (λ (w : Bor Text). w.now) feeders scripts))
     (then ∙ ap texts rest ∙ sym (drop-map (λ (w : Bor Text). w.now) feeders scripts)))
@@ -197,5 +217,5 @@ pub not_live : (description clock : Text) (scripts : List (Bor Text)) (feeders w
     → None ≡ live_files (description ∷ clock ∷ texts scripts) feeders workers
 not_live description clock scripts feeders workers is =
     let test : are_live (description ∷ clock ∷ []) (texts scripts) feeders ≡ false =
-        sym (live_is description clock scripts feeders) ∙ is in
+    sym (live_is description clock scripts feeders) ∙ is in
     rw test refl

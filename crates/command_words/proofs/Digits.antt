@@ -1,7 +1,7 @@
 -- Digits, as std reads a number.
-use Rattle.std.proofs.Common.{◌≡◌, ◌∙◌, ◌<◌, ◌≤◌, ℕ, Bool, true, false, refl, sym, List, [], ◌∷◌, arith}
-use Rattle.std.proofs.Common.{length, drop, ◌^◌, Some, None, ap, subst, inl, inr}
-use Rattle.std.specs.Prelude.{slice_index, ◌==◌, nat_lt}
+use Rattle.std.proofs.Common.{◌≡◌, ◌∙◌, ◌<◌, ◌≤◌, ℕ, true, false, refl, sym, [], ◌∷◌, arith}
+use Rattle.std.proofs.Common.{◌^◌, Some, None, ap, subst, inl, inr}
+use Rattle.std.specs.Prelude.{nat_lt}
 use Rattle.std.specs.List.{list_all}
 use Rattle.std.specs.Char.{is_ascii_digit, digit_value}
 use Rattle.std.specs.Str.Parse.{AllDigits, IsNumeral, without_leading_plus, digits_value}
@@ -39,18 +39,18 @@ numeral text digits = (grind (arith, nat_tests), all_digits text digits.all)
 -- what parsing gives
 pub in_bits : (text : Text) (n : ℕ) → Digits text
     → (IsNumeral 10 (without_leading_plus text)
-        × (digits_value 10 (without_leading_plus text) < 2 ^ 64))
-      × (n ≡ digits_value 10 (without_leading_plus text))
+    × (digits_value 10 (without_leading_plus text) < 2 ^ 64))
+    × (n ≡ digits_value 10 (without_leading_plus text))
     → Some n ≡ value_of text
 in_bits text n digits parsed =
     let low : digits_value 10 text < 2 ^ 64 =
-        subst (λ t. digits_value 10 t < 2 ^ 64) (no_plus text digits) parsed.0.1 in
+    subst (λ t. digits_value 10 t < 2 ^ 64) (no_plus text digits) parsed.0.1 in
     let test : nat_lt (digits_value 10 text) (2 ^ 64) ≡ true = grind (arith, nat_tests) in
     rw test (ap Some (parsed.1 ∙ ap (digits_value 10) (no_plus text digits)))
 
 pub out_of_bits : (text : Text) → Digits text
     → (IsNumeral 10 (without_leading_plus text)
-        × (digits_value 10 (without_leading_plus text) < 2 ^ 64) → ⊥)
+    × (digits_value 10 (without_leading_plus text) < 2 ^ 64) → ⊥)
     → None ≡ value_of text
 out_of_bits text digits fails = elim (cases_Bool (nat_lt (digits_value 10 text) (2 ^ 64))) [
   | inl low ↦

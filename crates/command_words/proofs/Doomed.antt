@@ -1,14 +1,14 @@
 -- Walks of `clap` that fail, whatever is read next: an option is used wrongly, and this is found
 -- later.
-use Rattle.std.proofs.Common.{◌≡◌, ◌∙◌, ℕ, Bool, true, false, refl, sym, ap, subst, List, [], ◌∷◌}
-use Rattle.std.proofs.Common.{◌&&◌, Option, Some, None, inl, inr, codes, true≢false, arith, drop, length}
+use Rattle.std.proofs.Common.{◌≡◌, ℕ, Bool, true, false, refl, sym, ap, subst, List, [], ◌∷◌}
+use Rattle.std.proofs.Common.{◌&&◌, Option, Some, None, inl, inr, codes, true≢false, arith}
 use Rattle.std.specs.Prelude.{fold, slice_get, encode_utf8_all, ◌==◌}
 use Rattle.std.specs.Str.{bytes_eq, chars, IsUtf8, IsCharBoundary}
 use Rattle.std.proofs.lemmas.Bool.{cases_Bool}
 use Rattle.std.proofs.lemmas.Str.{encodes-chars, IsUtf8-drop, IsCharBoundary-after_ascii}
 use Rattle.std.proofs.lemmas.Bool.{eqb-true}
 use Rattle.clap.specs.Lexer.{long_of, short_of}
-use Rattle.clap.specs.Walk.{Row, Text, Held, Walk, Waiting, Step, idle, option, positional, value}
+use Rattle.clap.specs.Walk.{Row, Text, Held, Walk, Waiting, idle, option, positional, value}
 use Rattle.clap.specs.Walk.{subcommand_met, plain_word, is_pending, arg_by_long, walked}
 use Rattle.clap.specs.Kinds.{Kinds, or_else}
 use Rattle.clap.specs.Faults.{turn_fault, walk_fault, settle_fault, positional_fault, long_fault}
@@ -59,7 +59,7 @@ looks_dash (first ∷ rest) text = elim (cases_Bool (first == 45)) [
   | inl is ↦ subst (λ c. Looks (45 ∷ c ∷ rest)) (sym (eqb-true first 45 is)) (looks_long rest)
   | inr not ↦
       let cut : IsCharBoundary (45 ∷ first ∷ rest) 1 =
-          IsCharBoundary-after_ascii (45 ∷ first ∷ rest) 0 text (omega arith) (omega arith) in
+      IsCharBoundary-after_ascii (45 ∷ first ∷ rest) 0 text (omega arith) (omega arith) in
       let after : IsUtf8 (first ∷ rest) = IsUtf8-drop (45 ∷ first ∷ rest) 1 text cut in
       let found = first_char first rest after in
       dashed first found.0 rest (rw not refl) (rw not refl) (rw not refl) found.1 (rw not refl) refl
@@ -136,12 +136,12 @@ pub long_fails : (name : Text) (v : Option Text) (h : Held) → Fails (settle_fa
 long_fails name v h f = elim (cases_Bool (bytes_eq (codes "workers") name)) [
   | inl is ↦ rw is (by_value v)
   | inr no_workers ↦ elim (cases_Bool (bytes_eq (codes "feeders") name)) [
-      | inl is ↦ rw (no_workers, is) (by_feeders v)
-      | inr no_feeders ↦ elim (cases_Bool (bytes_eq (codes "full") name)) [
-          | inl is ↦ rw (no_workers, no_feeders, is) (by_full v)
-          | inr no_full ↦ rw (no_workers, no_feeders, no_full) (kind.UnknownArgument, [], refl)
-        ]
+    | inl is ↦ rw (no_workers, is) (by_feeders v)
+    | inr no_feeders ↦ elim (cases_Bool (bytes_eq (codes "full") name)) [
+      | inl is ↦ rw (no_workers, no_feeders, is) (by_full v)
+      | inr no_full ↦ rw (no_workers, no_feeders, no_full) (kind.UnknownArgument, [], refl)
     ]
+  ]
 ]
   where
     by_value : (v : Option Text)

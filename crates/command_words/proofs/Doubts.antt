@@ -1,12 +1,12 @@
 -- What is doubtful stays so, whatever is read next.
-use Rattle.std.proofs.Common.{◌≡◌, ◌∙◌, ℕ, Bool, true, false, refl, sym, ap, List, [], ◌∷◌, ◌||◌}
+use Rattle.std.proofs.Common.{◌≡◌, Bool, true, false, refl, sym, List, [], ◌∷◌, ◌||◌}
 use Rattle.std.proofs.Common.{Option, Some, None, inl, inr, codes, true≢false}
-use Rattle.std.specs.Prelude.{option_and_then, is_some}
+use Rattle.std.specs.Prelude.{option_and_then}
 use Rattle.std.specs.Str.{bytes_eq}
 use Rattle.std.proofs.lemmas.Bool.{cases_Bool}
 use Rattle.command_words.specs.Words.{Text, Given, Reading, Valued, Workers, Feeders, Shape, Ends}
 use Rattle.command_words.specs.Words.{Long, Dashed, Plain, shape_of, shaped, named, valued, flagged}
-use Rattle.command_words.specs.Words.{with_value, read_word, read_words, whole}
+use Rattle.command_words.specs.Words.{read_word, read_words, whole}
 use Rattle.command_words.specs.Matching.{has_dash, IsDoubtful}
 
 abbrev pub in_doubt : Given → Bool
@@ -58,14 +58,14 @@ named_doubt name value reading doubt = elim (cases_Bool (bytes_eq (codes "worker
   | inl is ↦ rw is (valued_doubt Workers value reading.given.workers reading.given.feeders
       reading.given.places reading.given.is_full reading.wants reading.is_ended doubt)
   | inr no_workers ↦ elim (cases_Bool (bytes_eq (codes "feeders") name)) [
-      | inl is ↦ rw (no_workers, is) (valued_doubt Feeders value reading.given.workers
-          reading.given.feeders reading.given.places reading.given.is_full reading.wants
-          reading.is_ended doubt)
-      | inr no_feeders ↦ elim (cases_Bool (bytes_eq (codes "full") name)) [
-          | inl is ↦ rw (no_workers, no_feeders, is) (flagged_doubt value reading doubt)
-          | inr no_full ↦ rw (no_workers, no_feeders, no_full) tt
-        ]
+    | inl is ↦ rw (no_workers, is) (valued_doubt Feeders value reading.given.workers
+        reading.given.feeders reading.given.places reading.given.is_full reading.wants
+        reading.is_ended doubt)
+    | inr no_feeders ↦ elim (cases_Bool (bytes_eq (codes "full") name)) [
+      | inl is ↦ rw (no_workers, no_feeders, is) (flagged_doubt value reading doubt)
+      | inr no_full ↦ rw (no_workers, no_feeders, no_full) tt
     ]
+  ]
 ]
 
 shaped_doubt : (shape : Shape) (word : Text) (reading : Reading) → in_doubt reading.given ≡ true

@@ -1,5 +1,5 @@
 -- What `clap` answers at the end of the words.
-use Rattle.std.proofs.Common.{◌≡◌, ◌∙◌, ◌⊎◌, ℕ, Bool, true, false, refl, sym, ap, ap₂, subst, List, []}
+use Rattle.std.proofs.Common.{◌≡◌, ◌∙◌, Bool, true, false, refl, sym, ap, ap₂, subst, List, []}
 use Rattle.std.proofs.Common.{◌∷◌, ◌||◌, Option, Some, None, inl, inr, codes, true≢false, drop}
 use Rattle.std.specs.Prelude.{option_map, option_and_then, slice_get, find, if◌then◌else◌}
 use Rattle.std.specs.Str.{bytes_eq}

@@ -1,14 +1,13 @@
 -- What `clap` walks through and what is read go side by side.
-use Rattle.std.proofs.Common.{◌≡◌, ◌∙◌, ◌⊎◌, ℕ, Bool, true, false, refl, sym, ap, subst, List, [], ◌∷◌}
-use Rattle.std.proofs.Common.{◌||◌, Option, Some, None, inl, inr, codes, true≢false}
-use Rattle.std.specs.Prelude.{fold, slice_get, option_and_then, is_some}
+use Rattle.std.proofs.Common.{◌≡◌, ◌∙◌, ◌⊎◌, Bool, true, false, refl, sym, ap, subst, List, [], ◌∷◌}
+use Rattle.std.proofs.Common.{◌||◌, Option, Some, None, inl, inr, codes}
+use Rattle.std.specs.Prelude.{fold, option_and_then, is_some}
 use Rattle.std.specs.Str.{bytes_eq, IsUtf8}
 use Rattle.std.proofs.lemmas.Bool.{cases_Bool}
-use Rattle.clap.specs.Walk.{Row, Text, Held, Walk, Waiting, idle, option, positional, used, has_row}
-use Rattle.clap.specs.Walk.{settled, settled_rows, walked, is_pending, walk_from, nothing_held}
+use Rattle.clap.specs.Walk.{Row, Text, Walk, Waiting, idle, option, positional, used, has_row}
+use Rattle.clap.specs.Walk.{settled, settled_rows, walked, is_pending}
 use Rattle.clap.specs.Lexer.{long_of, short_of}
-use Rattle.clap.specs.Kinds.{Kinds}
-use Rattle.clap.specs.Faults.{turn_fault, walk_fault, settle_fault}
+use Rattle.clap.specs.Faults.{turn_fault, settle_fault}
 use Rattle.clap.specs.declared.error.kind.ErrorKind.TheVariants as kind
 use Rattle.command_words.specs.Words.{Given, Reading, Valued, Workers, Feeders, read_word, read_words}
 use Rattle.command_words.specs.Words.{whole, with_place, shape_of, Long, nothing_given}
@@ -73,7 +72,7 @@ pub data Next (s : State) (word : Text) : Type 0 where
       → Next s word
   lost : turn_fault top [] (walk_of s) word ≡ []
       → ((words : List Text) → AreTexts words
-          → Fails (comes_to (walked rules [] (walk_of s) word) words))
+      → Fails (comes_to (walked rules [] (walk_of s) word) words))
       → MayDoubt (read_word (reading_at s) word) → Next s word
 
 cases_option : (o : Option Text) → (o ≡ None) ⊎ ((x : Text) × (o ≡ Some x))
@@ -122,7 +121,7 @@ module _ (p : Option (Text × List Text)) (waiting : Waiting) (rows : List Row) 
   workers_met (Some text) e2 e3 is = elim (cases_option given.workers) [
     | inl none ↦
         let unused : has_row (codes "workers") now ≡ false =
-            workers_used now given right.shows ∙ ap is_some none in
+        workers_used now given right.shows ∙ ap is_some none in
         goes (Open None idle false (used workers_built (text ∷ []) now)
         (record given { workers = Some text }))
         (rw (no_command waiting word, e1, e2, is, right.calm, unused) refl)
@@ -134,9 +133,12 @@ module _ (p : Option (Text × List Text)) (waiting : Waiting) (rows : List Row) 
         })
     | inr some ↦
         let before : has_row (codes "workers") now ≡ true =
-            workers_used now given right.shows ∙ ap is_some some.1 in
-        fails (kind.ArgumentConflict, [],
-        rw (no_command waiting word, e1, e2, is, right.calm, before) refl)
+        workers_used now given right.shows ∙ ap is_some some.1 in
+        fails (
+          kind.ArgumentConflict,
+          [],
+          rw (no_command waiting word, e1, e2, is, right.calm, before) refl,
+        )
         (rw (e3, is, some.1) tt)
   ]
 
@@ -151,7 +153,7 @@ module _ (p : Option (Text × List Text)) (waiting : Waiting) (rows : List Row) 
   feeders_met (Some text) e2 e3 no_workers is = elim (cases_option given.feeders) [
     | inl none ↦
         let unused : has_row (codes "feeders") now ≡ false =
-            feeders_used now given right.shows ∙ ap is_some none in
+        feeders_used now given right.shows ∙ ap is_some none in
         goes (Open None idle false (used feeders_built (text ∷ []) now)
         (record given { feeders = Some text }))
         (rw (no_command waiting word, e1, e2, no_workers, is, right.calm, unused) refl)
@@ -164,9 +166,12 @@ module _ (p : Option (Text × List Text)) (waiting : Waiting) (rows : List Row) 
         })
     | inr some ↦
         let before : has_row (codes "feeders") now ≡ true =
-            feeders_used now given right.shows ∙ ap is_some some.1 in
-        fails (kind.ArgumentConflict, [],
-        rw (no_command waiting word, e1, e2, no_workers, is, right.calm, before) refl)
+        feeders_used now given right.shows ∙ ap is_some some.1 in
+        fails (
+          kind.ArgumentConflict,
+          [],
+          rw (no_command waiting word, e1, e2, no_workers, is, right.calm, before) refl,
+        )
         (rw (e3, no_workers, is, some.1) tt)
   ]
 
@@ -174,13 +179,16 @@ module _ (p : Option (Text × List Text)) (waiting : Waiting) (rows : List Row) 
       → bytes_eq (codes "workers") name ≡ false → bytes_eq (codes "feeders") name ≡ false
       → bytes_eq (codes "full") name ≡ true → Next (Open p waiting false rows given) word
   unfolding walked
-  full_met (Some text) e2 e3 no_workers no_feeders is = fails (kind.TooManyValues, [],
-      rw (no_command waiting word, e1, e2, no_workers, no_feeders, is) refl)
+  full_met (Some text) e2 e3 no_workers no_feeders is = fails (
+    kind.TooManyValues,
+    [],
+    rw (no_command waiting word, e1, e2, no_workers, no_feeders, is) refl,
+  )
       (rw (e3, no_workers, no_feeders, is) tt)
   full_met None e2 e3 no_workers no_feeders is = elim (cases_Bool given.is_full) [
     | inr none ↦
         let unused : has_row (codes "full") now ≡ false =
-            full_used now given right.shows ∙ none in
+        full_used now given right.shows ∙ none in
         goes (Open None idle false (used full_built [] now) (record given { is_full = true }))
         (rw (no_command waiting word, e1, e2, no_workers, no_feeders, is, right.calm, unused) refl)
         (rw (no_command waiting word, e1, e2, no_workers, no_feeders, is) refl)
@@ -192,9 +200,12 @@ module _ (p : Option (Text × List Text)) (waiting : Waiting) (rows : List Row) 
         })
     | inl some ↦
         let before : has_row (codes "full") now ≡ true =
-            full_used now given right.shows ∙ some in
-        fails (kind.ArgumentConflict, [],
-        rw (no_command waiting word, e1, e2, no_workers, no_feeders, is, right.calm, before) refl)
+        full_used now given right.shows ∙ some in
+        fails (
+          kind.ArgumentConflict,
+          [],
+          rw (no_command waiting word, e1, e2, no_workers, no_feeders, is, right.calm, before) refl,
+        )
         (rw (e3, no_workers, no_feeders, is, some) tt)
   ]
 
@@ -203,14 +214,17 @@ module _ (p : Option (Text × List Text)) (waiting : Waiting) (rows : List Row) 
   long_met v e2 e3 = elim (cases_Bool (bytes_eq (codes "workers") name)) [
     | inl is ↦ workers_met v e2 e3 is
     | inr no_workers ↦ elim (cases_Bool (bytes_eq (codes "feeders") name)) [
-        | inl is ↦ feeders_met v e2 e3 no_workers is
-        | inr no_feeders ↦ elim (cases_Bool (bytes_eq (codes "full") name)) [
-            | inl is ↦ full_met v e2 e3 no_workers no_feeders is
-            | inr no_full ↦ fails (kind.UnknownArgument, [],
-                rw (no_command waiting word, e1, e2, no_workers, no_feeders, no_full) refl)
-                (rw (e3, no_workers, no_feeders, no_full) tt)
-          ]
+      | inl is ↦ feeders_met v e2 e3 no_workers is
+      | inr no_feeders ↦ elim (cases_Bool (bytes_eq (codes "full") name)) [
+        | inl is ↦ full_met v e2 e3 no_workers no_feeders is
+        | inr no_full ↦ fails (
+          kind.UnknownArgument,
+          [],
+          rw (no_command waiting word, e1, e2, no_workers, no_feeders, no_full) refl,
+        )
+            (rw (e3, no_workers, no_feeders, no_full) tt)
       ]
+    ]
   ]
 
 before_end : (p : Option (Text × List Text)) (waiting : Waiting) (rows : List Row) (given : Given)
@@ -222,8 +236,14 @@ before_end p waiting rows given word (plain e1 e2 e3 e4) right = goes
     (with_place word given))
     (rw (no_command waiting word, e1, e2, e3, right.quiet word (held_at rows p))
     (place_fault (held_at rows p) ∙ right.calm))
-    (rw (no_command waiting word, e1, e2, e3, right.quiet word (held_at rows p),
-    and_false (is_pending places_built p)) refl)
+    (rw (
+      no_command waiting word,
+      e1,
+      e2,
+      e3,
+      right.quiet word (held_at rows p),
+      and_false (is_pending places_built p),
+    ) refl)
     (rw e4 refl) (after_place p waiting rows given word right)
 before_end p waiting rows given word (ends e) right =
     subst (λ x. Next (Open p waiting false rows given) x) (sym e)
@@ -266,7 +286,7 @@ unfolding walked
 workers_value rows given word e1 e2 e3 shows = elim (cases_option given.workers) [
   | inl none ↦
       let unused : has_row (codes "workers") rows ≡ false =
-          workers_used rows given shows ∙ ap is_some none in
+      workers_used rows given shows ∙ ap is_some none in
       goes (Open (Some (codes "workers", word ∷ [])) idle false rows
       (record given { workers = Some word }))
       (rw (e1, e2, e3) refl) (rw (e1, e2, e3) refl) (rw none refl)
@@ -277,7 +297,7 @@ workers_value rows given word e1 e2 e3 shows = elim (cases_option given.workers)
       })
   | inr some ↦
       let before : has_row (codes "workers") rows ≡ true =
-          workers_used rows given shows ∙ ap is_some some.1 in
+      workers_used rows given shows ∙ ap is_some some.1 in
       lost (rw (e1, e2, e3) refl)
       (λ words texts. rw (e1, e2, e3)
       (open_fails words rows (Some (codes "workers", word ∷ [])) idle idle_quiet texts
@@ -292,7 +312,7 @@ unfolding walked
 feeders_value rows given word e1 e2 e3 shows = elim (cases_option given.feeders) [
   | inl none ↦
       let unused : has_row (codes "feeders") rows ≡ false =
-          feeders_used rows given shows ∙ ap is_some none in
+      feeders_used rows given shows ∙ ap is_some none in
       goes (Open (Some (codes "feeders", word ∷ [])) idle false rows
       (record given { feeders = Some word }))
       (rw (e1, e2, e3) refl) (rw (e1, e2, e3) refl) (rw none refl)
@@ -303,7 +323,7 @@ feeders_value rows given word e1 e2 e3 shows = elim (cases_option given.feeders)
       })
   | inr some ↦
       let before : has_row (codes "feeders") rows ≡ true =
-          feeders_used rows given shows ∙ ap is_some some.1 in
+      feeders_used rows given shows ∙ ap is_some some.1 in
       lost (rw (e1, e2, e3) refl)
       (λ words texts. rw (e1, e2, e3)
       (open_fails words rows (Some (codes "feeders", word ∷ [])) idle idle_quiet texts
@@ -381,19 +401,19 @@ follows (word ∷ words) s texts right =
     })
     by again (goes t none walks reads right_then) = elim (again t right_then) [
       | inl rest ↦ inl (record {
-          given = rest.given;
-          none = turn_passes (walk_of s) word words none
-              ∙ ap (λ w. comes_to w words) walks ∙ rest.none;
-          is = ap (λ r. option_and_then whole (read_words r words)) reads ∙ rest.is;
-          shows = subst (λ w. Shows (settled rules (fold (walked rules []) w words).held).rows
-              rest.given) (sym walks) rest.shows;
-        })
+        given = rest.given;
+        none = turn_passes (walk_of s) word words none
+            ∙ ap (λ w. comes_to w words) walks ∙ rest.none;
+        is = ap (λ r. option_and_then whole (read_words r words)) reads ∙ rest.is;
+        shows = subst (λ w. Shows (settled rules (fold (walked rules []) w words).held).rows
+            rest.given) (sym walks) rest.shows;
+      })
       | inr rest ↦ inr (record {
-          fault = rw (turn_passes (walk_of s) word words none ∙ ap (λ w. comes_to w words) walks)
-              rest.fault;
-          doubt = subst (λ r. IsDoubtful (option_and_then whole (read_words r words))) (sym reads)
-              rest.doubt;
-        })
+        fault = rw (turn_passes (walk_of s) word words none ∙ ap (λ w. comes_to w words) walks)
+            rest.fault;
+        doubt = subst (λ r. IsDoubtful (option_and_then whole (read_words r words))) (sym reads)
+            rest.doubt;
+      })
     ]
 
 -- from the first word on

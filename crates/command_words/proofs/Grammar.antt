@@ -1,7 +1,7 @@
 -- The command of `clap` by which words are read, as a parse has it.
-use Rattle.std.proofs.Common.{◌≡◌, ℕ, Bool, true, false, refl, List, [], ◌∷◌, Some, None, codes}
-use Rattle.clap.specs.Walk.{Rule, Text}
-use Rattle.clap.specs.Simple.{Shape, App, built}
+use Rattle.std.proofs.Common.{◌≡◌, true, refl, List, [], ◌∷◌}
+use Rattle.clap.specs.Walk.{Rule}
+use Rattle.clap.specs.Simple.{Shape, built}
 use Rattle.clap.specs.Faults.{is_simple_and_free}
 use Rattle.command_words.specs.Matching.{grammar}
 use Rattle.command_words.proofs.Shown.{places_built, workers_built, feeders_built, full_built}

@@ -1,12 +1,11 @@
 -- The rows of matches: what one more use of an argument changes.
-use Rattle.std.proofs.Common.{◌≡◌, ◌∙◌, ℕ, Bool, true, false, refl, sym, ap, subst, List, [], ◌∷◌}
-use Rattle.std.proofs.Common.{◌++◌, Option, Some, None, inl, inr, true≢false, codes}
+use Rattle.std.proofs.Common.{◌≡◌, true, false, refl, sym, ap, subst, List, [], ◌∷◌}
+use Rattle.std.proofs.Common.{◌++◌, Option, Some, None, inl, inr, true≢false}
 use Rattle.std.specs.Prelude.{find, option_map, is_some}
-use Rattle.std.specs.List.{list_any}
 use Rattle.std.specs.Str.{bytes_eq}
 use Rattle.std.proofs.lemmas.Bool.{cases_Bool}
 use Rattle.std.proofs.lemmas.Slice.Eq.{bytes_eq-Decides}
-use Rattle.clap.specs.Walk.{Row, Text, at_row, with_values, without, has_row, more_values}
+use Rattle.clap.specs.Walk.{Row, Text, with_values, without, has_row}
 use Rattle.clap.specs.declared.builder.value_parser.Reading.{Reading}
 use Rattle.clap.specs.declared.parser.matches.ValueSource.{ValueSource}
 
@@ -28,9 +27,9 @@ other_kept id other how source values [] apart = rw apart refl
 other_kept id other how source values (row ∷ rows) apart = elim (cases_Bool (bytes_eq row.id id)) [
   | inl same ↦ rw (same, differs id other row.id same apart) refl
   | inr not ↦ elim (cases_Bool (bytes_eq row.id other)) [
-      | inl here ↦ rw (not, here) refl
-      | inr there ↦ rw (not, there) (other_kept id other how source values rows apart)
-    ]
+    | inl here ↦ rw (not, here) refl
+    | inr there ↦ rw (not, there) (other_kept id other how source values rows apart)
+  ]
 ]
 
 -- an id has its values after those that it had

@@ -1,14 +1,14 @@
 -- What the rows of a walk show of what is given.
-use Rattle.std.proofs.Common.{◌≡◌, ◌∙◌, ℕ, Bool, true, false, refl, sym, ap, subst, List, [], ◌∷◌}
-use Rattle.std.proofs.Common.{◌++◌, Option, Some, None, inl, inr, codes}
+use Rattle.std.proofs.Common.{◌≡◌, ◌∙◌, Bool, true, false, refl, ap, List, [], ◌∷◌}
+use Rattle.std.proofs.Common.{◌++◌, Option, Some, None, codes}
 use Rattle.std.specs.Prelude.{option_map, is_some, if◌then◌else◌}
 use Rattle.std.specs.Str.{bytes_eq}
-use Rattle.clap.specs.Walk.{Row, Rule, Text, used, has_row, with_values, without, reading_by}
+use Rattle.clap.specs.Walk.{Row, Rule, Text, used, has_row, with_values, without}
 use Rattle.clap.specs.Simple.{with_index, filled}
 use Rattle.clap.specs.declared.builder.value_parser.Reading.{Reading}
 use Rattle.clap.specs.declared.builder.value_parser.Reading.TheVariants.{AsWritten}
 use Rattle.clap.specs.declared.parser.matches.ValueSource.TheVariants.{CommandLine}
-use Rattle.command_words.specs.Words.{Given, Valued, Workers, Feeders, with_place}
+use Rattle.command_words.specs.Words.{Given, with_place}
 use Rattle.command_words.specs.Matching.{places_rule, valued_rule, flag_rule, listed}
 use Rattle.command_words.proofs.Rows.{pick, other_kept, same_added, none_without, has_row_is, added}
 

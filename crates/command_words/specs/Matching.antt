@@ -1,6 +1,6 @@
 -- For private functions alone: the command of `clap` by which words are read, and what its matches
 -- say.
-use Rattle.std.specs.Prelude.{◌≡◌, ℕ, Bool, true, false, not, ◌==◌, ◌||◌, List, [], ◌∷◌}
+use Rattle.std.specs.Prelude.{◌≡◌, ℕ, Bool, true, false, ◌==◌, ◌||◌, List, [], ◌∷◌}
 use Rattle.std.specs.Prelude.{◌^◌, ◌+◌, ◌&&◌, nat_lt, nat_le, if◌then◌else◌, codes, Option, Some, None, option_map, length}
 use Rattle.std.specs.Borrow.{Bor}
 use Rattle.std.specs.List.{list_all}

@@ -11,3 +11,6 @@ mod task;
 
 pub use reading::{task_of, texts_of};
 pub use task::Task;
+
+#[cfg(test)]
+mod tests;

@@ -169,10 +169,7 @@ fn asked<'a>(
 /// two files, `ground` and a file, `simulate` with a file, a seed and a size, or `live` with a file,
 /// a clock's script, and those of feeders and readers. Options may stand at any place behind it:
 /// `--workers N`, `--feeders N` and `--full`, each as far as the command has it. Our own.
-pub fn task_of<'a>(
-    alloc: Global,
-    words: &'a [&'a str],
-) -> Result<Option<Task<'a>>, OutOfMemory>
+pub fn task_of<'a>(alloc: Global, words: &'a [&'a str]) -> Result<Option<Task<'a>>, OutOfMemory>
     requires { AreTexts (texts words.now) }
     ensures { IfOk result (λ task. option_map plain_task task ≡ task_of (texts words.now)) }
 {

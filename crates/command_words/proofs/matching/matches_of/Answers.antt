@@ -1,4 +1,4 @@
-use Rattle.std.proofs.Common.{rules, ◌≡◌, ◌∙◌, ap, subst, inl, inr, sym}
+use Rattle.std.proofs.Common.{◌∙◌, ap, subst, inl, inr, sym}
 use Rattle.clap.specs.Simple.{HasMatchesOf, App}
 use Rattle.clap.specs.Values.{kind_of}
 use Rattle.clap.specs.Kinds.{IsAmong}

@@ -1,8 +1,4 @@
-use Rattle.std.proofs.Common.{rules, ◌≡◌, ◌∙◌, refl, subst, ℕ, List, true, sym, ap}
-use Rattle.std.specs.Prelude.{◌^◌, ◌<◌, nat_lt}
-use Rattle.std.specs.Str.Parse.{IsNumeral, digits_value, ParsesUnsigned}
-use Rattle.std.proofs.lemmas.Bool.{cases_Bool}
-use Rattle.command_words.proofs.Digits.{no_plus, numeral, in_bits, out_of_bits}
+use Rattle.command_words.proofs.Digits.{in_bits, out_of_bits}
 use Rattle.command_words.proofs.numbers.value_of.Goals as goal
 
 pub returns-in-Ok : goal.returns-in-Ok

@@ -1,4 +1,3 @@
-use Rattle.std.proofs.Common.{rules}
 use Rattle.command_words.specs.Matching.{plain_given}
 use Rattle.command_words.proofs.Asking.{unknown}
 use Rattle.command_words.proofs.reading.asked.Goals as goal

@@ -1,4 +1,4 @@
-use Rattle.std.proofs.Common.{rules, ◌≡◌, ◌∙◌, sym, true}
+use Rattle.std.proofs.Common.{rules, ◌∙◌, sym}
 use Rattle.command_words.proofs.Asking.{live_task, not_live}
 use Rattle.command_words.proofs.reading.live_files.Goals as goal
 

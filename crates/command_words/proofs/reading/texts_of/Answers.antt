@@ -1,4 +1,4 @@
-use Rattle.std.proofs.Common.{rules, ◌≡◌, ◌∙◌, ◌+◌, ℕ, sym, ap, ap₂, subst, ◌∷◌, ◌++◌, [], arith, suc, take}
+use Rattle.std.proofs.Common.{rules, ◌≡◌, ◌∙◌, ◌+◌, sym, ap, ap₂, subst, ◌∷◌, ◌++◌, [], arith, suc, take}
 use Rattle.std.specs.Str.{IsUtf8}
 use Rattle.std.proofs.lemmas.List.{map-append}
 use Rattle.std.proofs.Math.Seq.{take-suc}
@@ -13,9 +13,9 @@ loop-word-preserved c =
     let words = c.args.words.now in
     let word = c.word-item.result in
     let parts : texts c.push.new.self.items ≡ texts c.loop-word.lent.items ++ word ∷ [] =
-        ap texts c.in_ok-push.ensures.items
-        ∙ map-append (λ (w : Bor Text). w.now) c.loop-word.lent.items (c.text_of.result ∷ [])
-        ∙ ap (λ x. texts c.loop-word.lent.items ++ x ∷ []) c.text_of.ensures.is in
+    ap texts c.in_ok-push.ensures.items
+    ∙ map-append (λ (w : Bor Text). w.now) c.loop-word.lent.items (c.text_of.result ∷ [])
+    ∙ ap (λ x. texts c.loop-word.lent.items ++ x ∷ []) c.text_of.ensures.is in
     let next : i + 1 ≡ suc i = omega arith in
     record {
       is = parts ∙ ap₂ (λ front x. front ++ x ∷ []) c.loop-word.invariant.is c.word-item.is
