@@ -1,5 +1,6 @@
 -- From what is given to what is asked for.
-use Rattle.std.proofs.Common.{◌≡◌, ◌∙◌, ℕ, Bool, true, false, refl, sym, ap, subst, List, [], ◌∷◌, ◌++◌}
+use Rattle.std.proofs.Common.{◌≡◌, ◌∙◌, ℕ, Bool, true, false, refl, sym, ap, subst, List, [], ◌∷◌}
+use Rattle.std.proofs.Common.{◌++◌}
 use Rattle.std.proofs.Common.{◌||◌, Option, Some, None, inl, inr, codes, true≢false, drop, take}
 use Rattle.std.specs.Prelude.{option_and_then, slice_get, is_some}
 use Rattle.std.specs.Option.{option_map_or}
@@ -15,7 +16,8 @@ use Rattle.std.proofs.lemmas.List.{length-map, length-drop, take-map, drop-map}
 use Rattle.std.proofs.lemmas.List.Folds.{list_all-map}
 use Rattle.clap.specs.declared.parser.matches.ArgMatches.{ArgMatches}
 use Rattle.command_words.specs.Words.{Text, Given, texts, AreTexts, asked, given_by, task_of}
-use Rattle.command_words.specs.Words.{is_file, recognise, ground_text, simulate, live, workers_of, feeders_of}
+use Rattle.command_words.specs.Words.{is_file, recognise, ground_text, simulate, live, workers_of}
+use Rattle.command_words.specs.Words.{feeders_of}
 use Rattle.command_words.specs.Words.{live_files, recognise_files, simulate_places, are_live, Live}
 use Rattle.command_words.specs.Matching.{Holds, AreMatches, IsDoubtful, has_dash, is_dashed}
 use Rattle.command_words.specs.Matching.{are_lent_live}
@@ -103,7 +105,8 @@ no_live places workers (Some f) false doubt = elim (cases_Bool (has_dash workers
         ap (option_and_then (live_files places n)) (sym (no_workers w dash))
 
 -- what is doubtful is of no task
-no_task : (command : Text) (given : Given) → (has_dash given.workers || has_dash given.feeders) ≡ true
+no_task : (command : Text) (given : Given)
+    → (has_dash given.workers || has_dash given.feeders) ≡ true
     → None ≡ asked command given
 no_task command given doubt = elim (cases_Bool (bytes_eq command (codes "recognise"))) [
   | inl is ↦ rw is (no_recognise given.places given.workers given.feeders given.is_full doubt)

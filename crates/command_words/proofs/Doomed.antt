@@ -127,7 +127,8 @@ no_command (option id) word = refl
 no_command positional word = refl
 
 -- a place settles what was pending
-pub place_fault : (h : Held) → positional_fault rules false places_built h ≡ settle_fault rules false h
+pub place_fault : (h : Held) → positional_fault rules false places_built h
+    ≡ settle_fault rules false h
 place_fault h = rw (and_false (is_pending places_built h.pending)) refl
 
 -- an option settles what was pending, or is none
@@ -205,7 +206,14 @@ open_fails (word ∷ words) rows p waiting quiet texts f = by (looks word texts.
   where
     by : Looks word → Fails (comes_to (walk_at (held_at rows p) waiting false) (word ∷ words))
     by (plain e1 e2 e3 e4) = turn_fails (walk_at (held_at rows p) waiting false) word words
-        (rw (no_command waiting word, e1, e2, e3, quiet word (held_at rows p), place_fault (held_at rows p)) f)
+        (rw (
+          no_command waiting word,
+          e1,
+          e2,
+          e3,
+          quiet word (held_at rows p),
+          place_fault (held_at rows p),
+        ) f)
     by (dashed first x rest e1 e2 e3 e4 e5 e6) =
         turn_fails (walk_at (held_at rows p) waiting false) word words
         (dash_fails (held_at rows p) waiting word first x rest rows p e1 e2 e3 e4)

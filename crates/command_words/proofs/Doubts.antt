@@ -38,10 +38,11 @@ valued_doubt Workers (Some v) None feeders places full wants ended doubt =
 valued_doubt Workers (Some v) (Some w) feeders places full wants ended doubt = tt
 valued_doubt Feeders (Some v) None None places full wants ended doubt =
     absurd (true≢false (sym doubt))
-valued_doubt Feeders (Some v) (Some w) None places full wants ended doubt = elim (cases_Bool (has_dash (Some w))) [
-  | inl dashed ↦ or_left (has_dash (Some w)) (has_dash (Some v)) dashed
-  | inr not ↦ absurd (true≢false (sym (rw not at doubt)))
-]
+valued_doubt Feeders (Some v) (Some w) None places full wants ended doubt =
+    elim (cases_Bool (has_dash (Some w))) [
+      | inl dashed ↦ or_left (has_dash (Some w)) (has_dash (Some v)) dashed
+      | inr not ↦ absurd (true≢false (sym (rw not at doubt)))
+    ]
 valued_doubt Feeders (Some v) workers (Some w) places full wants ended doubt = tt
 
 flagged_doubt : (value : Option Text) (reading : Reading) → in_doubt reading.given ≡ true
@@ -87,10 +88,11 @@ word_doubt None feeders places full (Some Workers) ended word doubt =
     or_right (has_dash (Some word)) (has_dash feeders) doubt
 word_doubt (Some w) feeders places full (Some Workers) ended word doubt = tt
 word_doubt None None places full (Some Feeders) ended word doubt = absurd (true≢false (sym doubt))
-word_doubt (Some w) None places full (Some Feeders) ended word doubt = elim (cases_Bool (has_dash (Some w))) [
-  | inl dashed ↦ or_left (has_dash (Some w)) (has_dash (Some word)) dashed
-  | inr not ↦ absurd (true≢false (sym (rw not at doubt)))
-]
+word_doubt (Some w) None places full (Some Feeders) ended word doubt =
+    elim (cases_Bool (has_dash (Some w))) [
+      | inl dashed ↦ or_left (has_dash (Some w)) (has_dash (Some word)) dashed
+      | inr not ↦ absurd (true≢false (sym (rw not at doubt)))
+    ]
 word_doubt workers (Some f) places full (Some Feeders) ended word doubt = tt
 word_doubt workers feeders places full None true word doubt = doubt
 word_doubt workers feeders places full None false word doubt =

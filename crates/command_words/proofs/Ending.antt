@@ -5,7 +5,8 @@ use Rattle.std.specs.Prelude.{option_map, option_and_then, slice_get, find, if�
 use Rattle.std.specs.Str.{bytes_eq}
 use Rattle.std.proofs.lemmas.Bool.{cases_Bool}
 use Rattle.clap.specs.Walk.{Row, Rule, Text, Held, has_row, with_default, finished, settled, walk}
-use Rattle.clap.specs.Walk.{walk_from, nothing_held, idle, first_of, one_of, all_of, row_text, rows_of}
+use Rattle.clap.specs.Walk.{walk_from, nothing_held, idle, first_of, one_of, all_of, row_text}
+use Rattle.clap.specs.Walk.{rows_of}
 use Rattle.clap.specs.Values.{read_as}
 use Rattle.clap.specs.Matches.{found_of}
 use Rattle.clap.specs.Simple.{built, HasMatchesOf}
@@ -23,7 +24,8 @@ use Rattle.command_words.specs.Matching.{grammar, flag_text, listed, Holds, AreM
 use Rattle.command_words.specs.Matching.{IsDoubtful}
 use Rattle.command_words.proofs.Grammar.{top, rules, no_subs}
 use Rattle.command_words.proofs.Rows.{pick, other_kept, same_added, added}
-use Rattle.command_words.proofs.Shown.{Shows, places_built, workers_built, feeders_built, full_built}
+use Rattle.command_words.proofs.Shown.{Shows, places_built, workers_built, feeders_built}
+use Rattle.command_words.proofs.Shown.{full_built}
 use Rattle.command_words.proofs.Shown.{values, one_value, flag_value, full_used}
 use Rattle.command_words.proofs.Doomed.{comes_to, walk_at, held_at}
 use Rattle.command_words.proofs.Following.{from_first}
@@ -42,7 +44,8 @@ finished_is h =
     let rows = (settled rules h).rows in
     ap (λ rs. with_default (with_default (with_default rs workers_built) feeders_built) full_built)
     (kept rows (codes "places"))
-    ∙ ap (λ rs. with_default (with_default rs feeders_built) full_built) (kept rows (codes "workers"))
+    ∙ ap (λ rs. with_default (with_default rs feeders_built) full_built)
+    (kept rows (codes "workers"))
     ∙ ap (λ rs. with_default rs full_built) (kept rows (codes "feeders"))
 
 -- ---- faults
@@ -101,7 +104,8 @@ default_kept : (id : Text) (rows : List Row) → bytes_eq (codes "full") id ≡ 
     → pick id (with_default rows full_built) ≡ pick id rows
 default_kept id rows apart = elim (cases_Bool (has_row (codes "full") rows)) [
   | inl has ↦ rw has refl
-  | inr not ↦ rw not (other_kept (codes "full") id AsWritten DefaultValue (codes "false" ∷ []) rows apart)
+  | inr not ↦ rw not
+      (other_kept (codes "full") id AsWritten DefaultValue (codes "false" ∷ []) rows apart)
 ]
 
 flag_shown : (rows : List Row) (is_full : Bool) → has_row (codes "full") rows ≡ is_full
@@ -112,39 +116,49 @@ flag_shown rows false has is = rw has
     (same_added (codes "full") AsWritten DefaultValue (codes "false" ∷ []) rows
     ∙ ap (λ p. Some (added AsWritten (codes "false" ∷ []) p)) is)
 
-all_by_pick : (id : Text) (rows : List Row) → all_of id rows ≡ option_map (λ (p : Reading × List Text). p.1) (pick id rows)
+-- the values of a row, the first of them, and how that is read
+abbrev second : Reading × List Text → List Text
+second p = p.1
+
+abbrev first : Reading × List Text → Option Text
+first p = slice_get p.1 0
+
+abbrev read_first : Reading × List Text → Option Text
+read_first p = option_map (read_as p.0) (slice_get p.1 0)
+
+all_by_pick : (id : Text) (rows : List Row) → all_of id rows ≡ option_map second (pick id rows)
 all_by_pick id rows = go (find (λ r. bytes_eq r.id id) rows)
   where
     go : (o : Option Row) → option_map (λ r. r.values) o
-        ≡ option_map (λ (p : Reading × List Text). p.1) (option_map (λ r. (r.reading, r.values)) o)
+        ≡ option_map second (option_map (λ r. (r.reading, r.values)) o)
     go None = refl
     go (Some r) = refl
 
 first_by_pick : (id : Text) (rows : List Row) → first_of id rows
-    ≡ option_and_then (λ (p : Reading × List Text). slice_get p.1 0) (pick id rows)
+    ≡ option_and_then first (pick id rows)
 first_by_pick id rows = go (find (λ r. bytes_eq r.id id) rows)
   where
     go : (o : Option Row) → option_and_then (λ r. slice_get r.values 0) o
-        ≡ option_and_then (λ (p : Reading × List Text). slice_get p.1 0) (option_map (λ r. (r.reading, r.values)) o)
+        ≡ option_and_then first (option_map (λ r. (r.reading, r.values)) o)
     go None = refl
     go (Some r) = refl
 
 one_by_pick : (id : Text) (rows : List Row) → one_of id rows
-    ≡ option_and_then (λ (p : Reading × List Text). option_map (read_as p.0) (slice_get p.1 0)) (pick id rows)
+    ≡ option_and_then read_first (pick id rows)
 one_by_pick id rows = go (find (λ r. bytes_eq r.id id) rows)
   where
     go : (o : Option Row) → option_and_then row_text o
-        ≡ option_and_then (λ (p : Reading × List Text). option_map (read_as p.0) (slice_get p.1 0))
+        ≡ option_and_then read_first
         (option_map (λ r. (r.reading, r.values)) o)
     go None = refl
     go (Some r) = refl
 
-listed_again : (o : Option (List Text)) → option_map (λ (p : Reading × List Text). p.1) (option_map values o) ≡ o
+listed_again : (o : Option (List Text)) → option_map second (option_map values o) ≡ o
 listed_again None = refl
 listed_again (Some words) = refl
 
 value_again : (o : Option Text)
-    → option_and_then (λ (p : Reading × List Text). slice_get p.1 0) (one_value o) ≡ o
+    → option_and_then first (one_value o) ≡ o
 value_again None = refl
 value_again (Some v) = refl
 
@@ -158,22 +172,22 @@ holds matches given h are shows =
       places = raw_values-rows (found_of matches) (codes "places")
           ∙ ap (all_of (codes "places")) is
           ∙ all_by_pick (codes "places") (with_default rows full_built)
-          ∙ ap (option_map (λ (p : Reading × List Text). p.1)) (default_kept (codes "places") rows refl ∙ shows.places)
+          ∙ ap (option_map second) (default_kept (codes "places") rows refl ∙ shows.places)
           ∙ listed_again (listed given.places);
       workers = first_value-rows (found_of matches) (codes "workers")
           ∙ ap (first_of (codes "workers")) is
           ∙ first_by_pick (codes "workers") (with_default rows full_built)
-          ∙ ap (option_and_then (λ (p : Reading × List Text). slice_get p.1 0)) (default_kept (codes "workers") rows refl ∙ shows.workers)
+          ∙ ap (option_and_then first) (default_kept (codes "workers") rows refl ∙ shows.workers)
           ∙ value_again given.workers;
       feeders = first_value-rows (found_of matches) (codes "feeders")
           ∙ ap (first_of (codes "feeders")) is
           ∙ first_by_pick (codes "feeders") (with_default rows full_built)
-          ∙ ap (option_and_then (λ (p : Reading × List Text). slice_get p.1 0)) (default_kept (codes "feeders") rows refl ∙ shows.feeders)
+          ∙ ap (option_and_then first) (default_kept (codes "feeders") rows refl ∙ shows.feeders)
           ∙ value_again given.feeders;
       full = one_text-rows (found_of matches) (codes "full")
           ∙ ap (one_of (codes "full")) is
           ∙ one_by_pick (codes "full") (with_default rows full_built)
-          ∙ ap (option_and_then (λ (p : Reading × List Text). option_map (read_as p.0) (slice_get p.1 0)))
+          ∙ ap (option_and_then read_first)
           (flag_shown rows given.is_full (full_used rows given shows) shows.full);
     }
 
@@ -193,13 +207,14 @@ not_empty k ks e = true≢false (ap (λ (l : Kinds). go l) e)
 pub ok_answer : (words : List Text) (matches : ArgMatches) → AreTexts words
     → fault_of grammar words ≡ [] → HasMatchesOf grammar words matches
     → AreMatches (given_by (drop 1 words)) (Some matches)
-ok_answer words matches texts none has = elim (from_first (drop 1 words) (texts_after words texts)) [
-  | inl reads ↦ subst (λ given. AreMatches given (Some matches)) (sym reads.is)
-      (holds matches reads.given (walk rules [] nothing_held (drop 1 words)).held
-      (has refl).0 reads.shows)
-  | inr refuses ↦ absurd (not_empty refuses.fault.0 refuses.fault.1
-      (sym refuses.fault.2 ∙ sym (fault_is words) ∙ none))
-]
+ok_answer words matches texts none has =
+    elim (from_first (drop 1 words) (texts_after words texts)) [
+      | inl reads ↦ subst (λ given. AreMatches given (Some matches)) (sym reads.is)
+          (holds matches reads.given (walk rules [] nothing_held (drop 1 words)).held
+          (has refl).0 reads.shows)
+      | inr refuses ↦ absurd (not_empty refuses.fault.0 refuses.fault.1
+          (sym refuses.fault.2 ∙ sym (fault_is words) ∙ none))
+    ]
 
 among_none : (k : ErrorKind) (kinds : Kinds) → kinds ≡ [] → IsAmong k kinds → ⊥
 among_none k [] e among = among

@@ -9,17 +9,20 @@ use Rattle.clap.specs.Walk.{settled, settled_rows, walked, is_pending}
 use Rattle.clap.specs.Lexer.{long_of, short_of}
 use Rattle.clap.specs.Faults.{turn_fault, settle_fault}
 use Rattle.clap.specs.declared.error.kind.ErrorKind.TheVariants as kind
-use Rattle.command_words.specs.Words.{Given, Reading, Valued, Workers, Feeders, read_word, read_words}
+use Rattle.command_words.specs.Words.{Given, Reading, Valued, Workers, Feeders, read_word}
+use Rattle.command_words.specs.Words.{read_words}
 use Rattle.command_words.specs.Words.{whole, with_place, shape_of, Long, nothing_given}
 use Rattle.command_words.specs.Matching.{IsDoubtful, is_dashed}
 use Rattle.command_words.specs.Words.{AreTexts}
 use Rattle.command_words.proofs.Grammar.{top, rules}
-use Rattle.command_words.proofs.Shown.{Shows, places_built, workers_built, feeders_built, full_built}
+use Rattle.command_words.proofs.Shown.{Shows, places_built, workers_built, feeders_built}
+use Rattle.command_words.proofs.Shown.{full_built}
 use Rattle.command_words.proofs.Shown.{place_shown, workers_shown, feeders_shown, full_shown}
 use Rattle.command_words.proofs.Shown.{workers_used, feeders_used, full_used}
 use Rattle.command_words.proofs.Doubts.{MayDoubt, stays}
 use Rattle.command_words.proofs.Doomed.{Looks, plain, ends, dashed, long, looks, held_at, walk_at}
-use Rattle.command_words.proofs.Doomed.{comes_to, Fails, turn_fails, turn_passes, no_words, and_false}
+use Rattle.command_words.proofs.Doomed.{comes_to, Fails, turn_fails, turn_passes, no_words}
+use Rattle.command_words.proofs.Doomed.{and_false}
 use Rattle.command_words.proofs.Doomed.{no_command, place_fault, dash_fails, long_turn, ended_fails}
 use Rattle.command_words.proofs.Doomed.{IsQuiet, open_fails, long_fails}
 

@@ -53,9 +53,11 @@ place_shown rows given word shows = record {
   places = same_added (codes "places") AsWritten CommandLine (word ∷ []) rows
       ∙ ap (λ p. Some (added AsWritten (word ∷ []) p)) shows.places
       ∙ more_listed word given.places;
-  workers = other_kept (codes "places") (codes "workers") AsWritten CommandLine (word ∷ []) rows refl
+  workers = other_kept (codes "places") (codes "workers") AsWritten CommandLine (word ∷ []) rows
+      refl
       ∙ shows.workers;
-  feeders = other_kept (codes "places") (codes "feeders") AsWritten CommandLine (word ∷ []) rows refl
+  feeders = other_kept (codes "places") (codes "feeders") AsWritten CommandLine (word ∷ []) rows
+      refl
       ∙ shows.feeders;
   full = other_kept (codes "places") (codes "full") AsWritten CommandLine (word ∷ []) rows refl
       ∙ shows.full;
@@ -68,7 +70,8 @@ first_use id texts rows = with_values id AsWritten CommandLine texts (without id
 other_shown : (id other : Text) (texts : List Text) (rows : List Row) → pick id rows ≡ None
     → bytes_eq id other ≡ false → pick other (first_use id texts rows) ≡ pick other rows
 other_shown id other texts rows none apart =
-    ap (λ rs. pick other (with_values id AsWritten CommandLine texts rs)) (none_without id rows none)
+    ap (λ rs. pick other (with_values id AsWritten CommandLine texts rs))
+    (none_without id rows none)
     ∙ other_kept id other AsWritten CommandLine texts rows apart
 
 own_shown : (id : Text) (texts : List Text) (rows : List Row) → pick id rows ≡ None

@@ -1,4 +1,5 @@
--- No contract speaks by this: words and what they ask for. Each equation holds by computation alone.
+-- No contract speaks by this: words and what they ask for. Each equation holds by computation
+-- alone.
 use Rattle.std.specs.Prelude.{◌≡◌, ℕ, ◌==◌, true, if◌then◌else◌, List, [], ◌∷◌, codes, refl}
 use Rattle.std.specs.Prelude.{Option, Some, None}
 use Rattle.command_words.specs.Words.{Text, Task, Recognise, Simulate, Live, task_of}
@@ -16,13 +17,16 @@ parted (c ∷ rest) = if c == 32 then [] ∷ parted rest else more c (parted res
 abbrev asked : Text → Option Task
 asked text = task_of (parted text)
 
-behind_equals : asked (codes "recognise a b --workers=2") ≡ Some (Recognise (codes "a") (codes "b") 2)
+behind_equals : asked (codes "recognise a b --workers=2")
+    ≡ Some (Recognise (codes "a") (codes "b") 2)
 behind_equals = refl
 
-options_end : asked (codes "recognise --workers 2 -- a -b") ≡ Some (Recognise (codes "a") (codes "-b") 2)
+options_end : asked (codes "recognise --workers 2 -- a -b")
+    ≡ Some (Recognise (codes "a") (codes "-b") 2)
 options_end = refl
 
-between_files : asked (codes "recognise a --workers 02 b") ≡ Some (Recognise (codes "a") (codes "b") 2)
+between_files : asked (codes "recognise a --workers 02 b")
+    ≡ Some (Recognise (codes "a") (codes "b") 2)
 between_files = refl
 
 too_many_workers : asked (codes "recognise a b --workers 17") ≡ None

@@ -1,12 +1,14 @@
 -- For private functions alone: the command of `clap` by which words are read, and what its matches
 -- say.
 use Rattle.std.specs.Prelude.{◌≡◌, ℕ, Bool, true, false, ◌==◌, ◌||◌, List, [], ◌∷◌}
-use Rattle.std.specs.Prelude.{◌^◌, ◌+◌, ◌&&◌, nat_lt, nat_le, if◌then◌else◌, codes, Option, Some, None, option_map, length}
+use Rattle.std.specs.Prelude.{◌^◌, ◌+◌, ◌&&◌, nat_lt, nat_le, if◌then◌else◌, codes, Option, Some}
+use Rattle.std.specs.Prelude.{None, option_map, length}
 use Rattle.std.specs.Borrow.{Bor}
 use Rattle.std.specs.List.{list_all}
 use Rattle.std.specs.Char.{is_ascii_digit}
 use Rattle.std.specs.Str.Parse.{digits_value}
-use Rattle.clap.specs.Words.{App, Rule, new_app, new_rule, with_rule, found_of, first_value, one_text}
+use Rattle.clap.specs.Words.{App, Rule, new_app, new_rule, with_rule, found_of, first_value}
+use Rattle.clap.specs.Words.{one_text}
 use Rattle.clap.specs.Words.{matched_of, raw_values}
 use Rattle.clap.specs.Simple.{on_top}
 use Rattle.clap.specs.declared.builder.action.ArgAction.TheVariants.{Append, SetTrue}

@@ -1,7 +1,8 @@
 // What the words of a command ask for.
 ghost use Rattle.std.specs.Prelude.{◌≡◌, ◌≤◌, ◌∷◌, [], IfOk, option_map};
 ghost use Rattle.std.specs.List.{list_all};
-ghost use Rattle.command_words.specs.Words.{texts, AreTexts, asked, is_file, ground_text, live, live_files};
+ghost use Rattle.command_words.specs.Words.{texts, AreTexts, asked, is_file, ground_text, live};
+ghost use Rattle.command_words.specs.Words.{live_files};
 ghost use Rattle.command_words.specs.Words.{plain_task, recognise, recognise_files, simulate};
 ghost use Rattle.command_words.specs.Words.{simulate_places, task_of};
 ghost use Rattle.std.specs.Str.{IsUtf8};
@@ -54,6 +55,31 @@ fn ground<'a>(given: Given<'_, 'a>) -> Option<Task<'a>>
     }
 }
 
+// The seed and the size of a simulation of a description, with its options.
+fn simulate_places<'a>(
+    description: &'a str,
+    seed: &str,
+    size: &str,
+    workers: u8,
+    is_full: bool,
+) -> Option<Task<'a>>
+    ensures { option_map plain_task result ≡ simulate_places (description.entry.now ∷ seed.now
+        ∷ size.now ∷ []) workers is_full }
+{
+    if !is_file(description) {
+        return None;
+    }
+    let seed = seed_of(seed)?;
+    let size = size_of(size)?;
+    Some(Task::Simulate {
+        description,
+        seed,
+        size,
+        workers,
+        is_full,
+    })
+}
+
 // `DESC SEED SIZE`.
 fn simulate<'a>(given: Given<'_, 'a>) -> Option<Task<'a>>
     ensures { option_map plain_task result ≡ simulate (plain_given given.entry) }
@@ -62,19 +88,12 @@ fn simulate<'a>(given: Given<'_, 'a>) -> Option<Task<'a>>
         return None;
     }
     let workers = workers_of(given.workers)?;
-    let Some([description, seed, size]) = given.places else {
-        return None;
-    };
-    if !is_file(description) {
-        return None;
+    match given.places {
+        Some([description, seed, size]) => {
+            simulate_places(description, seed, size, workers, given.is_full)
+        }
+        _ => None,
     }
-    Some(Task::Simulate {
-        description,
-        seed: seed_of(seed)?,
-        size: size_of(size)?,
-        workers,
-        is_full: given.is_full,
-    })
 }
 
 // A copy of the references to some words.
@@ -165,10 +184,11 @@ fn asked<'a>(
     }
 }
 
-/// The task of the words, if they are of a form. The first is the command word: `recognise` and
-/// two files, `ground` and a file, `simulate` with a file, a seed and a size, or `live` with a file,
+/// The task of the words, if they are of a form. The first is the command word: `recognise` with
+/// two files, `ground` with one, `simulate` with a file, a seed and a size, or `live` with a file,
 /// a clock's script, and those of feeders and readers. Options may stand at any place behind it:
-/// `--workers N`, `--feeders N` and `--full`, each as far as the command has it. Our own.
+/// `--workers N` (1 to 16), `--feeders N` (1 to 8) and `--full`, each where the command has it. It
+/// answers None where the words are of no form, and want of memory. Our own.
 pub fn task_of<'a>(alloc: Global, words: &'a [&'a str]) -> Result<Option<Task<'a>>, OutOfMemory>
     requires { AreTexts (texts words.now) }
     ensures { IfOk result (λ task. option_map plain_task task ≡ task_of (texts words.now)) }

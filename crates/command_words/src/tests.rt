@@ -35,13 +35,19 @@ fn shown(alloc: Global, task: &Task) -> Result<String, Fail> {
     Ok(text?)
 }
 
-// What words ask for. They are parted by spaces, and `''` is the empty word.
-fn asked(alloc: Global, line: &str) -> Result<String, Fail> {
+// The words of a line. They are parted by spaces, and `''` is the empty word.
+fn words_of(alloc: Global, line: &str) -> Result<Vec<Word>, Fail> {
     let mut words = Vec::new(alloc);
     for word in line.split(' ') {
         let word = if word == "''" { "" } else { word };
         words.push(Word::new(alloc, word)?)?;
     }
+    Ok(words)
+}
+
+// What the words of a line ask for.
+fn asked(alloc: Global, line: &str) -> Result<String, Fail> {
+    let words = words_of(alloc, line)?;
     let texts = texts_of(alloc, &words)?;
     match task_of(alloc, &texts)? {
         Some(task) => shown(alloc, &task),
