@@ -1,12 +1,10 @@
 -- Evidence that the definitions say what is meant: small workloads, against the values of a program
 -- of their own. Each equation holds by computation alone.
-use Rattle.std.specs.Prelude.{◌≡◌, ℕ, List, [], ◌∷◌, refl}
+use Rattle.std.specs.Prelude.{◌≡◌, ℕ, [], ◌∷◌, refl}
 use Rattle.ground_types.specs.Examples.{lamp, lamp_with}
 use Rattle.ground_types.specs.declared.entries.Act.TheVariants.{Add, Revoke}
-use Rattle.ground_types.specs.declared.entries.Command.{Command}
 use Rattle.ground_types.specs.declared.entries.Command.TheVariants.{Feed, Seal}
 use Rattle.ground_types.specs.declared.plan.Plan.{Plan}
-use Rattle.ground_types.specs.declared.program.Program.{Program}
 use Rattle.workload_draw.specs.Workload.{workload_of}
 
 -- more queries than commands: a seal follows each

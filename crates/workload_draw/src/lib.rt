@@ -6,4 +6,6 @@
 
 mod draws;
 mod feeds;
+mod rounds;
 
+pub use rounds::workload;
