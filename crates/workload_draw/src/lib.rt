@@ -9,3 +9,6 @@ mod feeds;
 mod rounds;
 
 pub use rounds::workload;
+
+#[cfg(test)]
+mod tests;

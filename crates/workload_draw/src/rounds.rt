@@ -1,6 +1,7 @@
 // Round after round: an add or a revoke, and a seal where one follows.
 ghost use Rattle.std.specs.Prelude.{◌≡◌, ◌≤◌, ◌<◌, ◌/◌, [], IfOk};
 ghost use Rattle.ground_types.specs.Sound.{IsSound};
+ghost use Rattle.ground_types.specs.Windows.{IsSoundPlan};
 ghost use Rattle.workload_draw.specs.Counts.{feed_count, seal_count};
 ghost use Rattle.workload_draw.specs.Spaced.{AreSpaced};
 ghost use Rattle.workload_draw.specs.Workload.{per_seal, with_feed, with_seal, with_round};
@@ -43,7 +44,7 @@ impl Made {
 
     // Adds command i, with a seal behind each `m` commands.
     fn add_feed(&mut self, program: &Program, m: u32, i: u32) -> Result<(), OutOfMemory>
-        requires sound { IsSound program.now }
+        requires sound { IsSoundPlan program.now.plan }
         requires some { 1 ≤ program.now.events }
         requires every { 1 ≤ m }
         requires within { i / m ≤ program.now.plan.queries }
