@@ -11,7 +11,7 @@ use Rattle.ground_types.specs.declared.program.Program.{Program}
 use Rattle.ground_types.specs.Windows.{left}
 use Rattle.workload_draw.specs.Counts.{is_feed}
 
--- the state behind a draw: Knuth's linear congruential generator of 64 bits
+-- the state behind a draw: the linear congruential generator of Knuth's MMIX
 abbrev pub next_state : ℕ → ℕ
 next_state x = (x * 6364136223846793005 + 1442695040888963407) % 2 ^ 64
 
@@ -43,8 +43,8 @@ abbrev pub revoked : ℕ → Option Command → Command
 revoked feeder (Some (Feed other act event at)) = Feed feeder Revoke event at
 revoked feeder other = Feed feeder Revoke 0 0
 
--- the revoke of one of the 64 commands before command i, or of all of them where they are fewer,
--- which is drawn in state x
+-- the revoke of what one of the commands before command i names: it is drawn in state x from the 64
+-- nearest, or from all where they are fewer
 abbrev pub revoked_before : ℕ → ℕ → List Command → ℕ → Command
 revoked_before feeder i before x = revoked feeder (feed_at before (i - 1 - drawn (min i 64) x))
 
