@@ -1,7 +1,11 @@
 -- Where inputs are told and none failed, the answer of a task is what their bytes come to.
-use Rattle.std.proofs.Common.{◌≡◌, ◌⊎◌, inl, inr, ℕ, List, map, Option, Some, None, Result, Ok, Err}
-use Rattle.std.proofs.Common.{refl, sym, ◌∙◌, subst}
-use Rattle.std.specs.Prelude.{IfSome}
+use Rattle.std.proofs.Common.{◌≡◌, ◌⊎◌, inl, inr, ℕ, Bool, true, false, List, map, Option, Some}
+use Rattle.std.proofs.Common.{None, Result, Ok, Err, refl, sym, ap, ◌∙◌, subst}
+use Rattle.std.specs.Prelude.{if◌then◌else◌, IfSome}
+use Rattle.rt_base.specs.declared.limit.Limit.{Limit}
+use Rattle.rt_base.specs.declared.limit.Limit.TheVariants as limit
+use Rattle.ground_rules.specs.Grounded.{PlainProgram}
+use Rattle.run_status.specs.declared.status.DescFault.{DescFault}
 use Rattle.rt_base.specs.Outside.{Rose}
 use Rattle.rule_forms.specs.Forms.{plain}
 use Rattle.decl_known.specs.Checked.{plain_checked}
@@ -12,13 +16,15 @@ use Rattle.rtec_main.specs.declared.script.ScriptRefused.{ScriptRefused}
 use Rattle.run_status.specs.declared.status.Status.{Status}
 use Rattle.run_status.specs.declared.status.Status.TheVariants as status
 use Rattle.ground_types.specs.declared.program.Program.{Program}
-use Rattle.rtec_main.specs.Described.{Described, IsDescribed, Describes, IsProgramOf}
-use Rattle.rtec_main.specs.Script.{commands_of, IsScriptOf, DoRun}
+use Rattle.rtec_main.specs.Described.{Described, IsDescribed, TooLong, Faulty, Exceeds, Describes}
+use Rattle.rtec_main.specs.Described.{IsProgramOf}
+use Rattle.rtec_main.specs.Script.{commands_of, are_too_many, IsScriptOf, DoRun}
 use Rattle.rtec_main.specs.Reads.{IsDescriptionOf, IsSoundDescription, IsWhyNoDescription}
 use Rattle.rtec_main.specs.Reads.{description_status, IsWhyNoScript, script_status}
-use Rattle.rtec_main.specs.Run.{Task, Recognise, Ground, script_outcome}
-use Rattle.rtec_main.specs.Run.{IsRecogniseOutcome, ground_outcome}
-use Rattle.rtec_main.specs.Tasks.{ConcludesAny}
+use Rattle.command_words.specs.Words.{Task, Recognise, Ground, Simulate, Live}
+use Rattle.rtec_main.specs.Run.{World, ReadWell, script_outcome, IsRecogniseOutcome}
+use Rattle.rtec_main.specs.Run.{ground_outcome, simulate_outcome, Concludes}
+use Rattle.rtec_main.specs.Tasks.{world_of, ConcludesAny}
 use Rattle.rtec_main.proofs.Refusals.{description_outcome, short_outcome, script_outcome_is}
 use Rattle.rtec_main.proofs.Scripts.{run_outcome}
 
@@ -44,24 +50,30 @@ report_by_bytes (Some d) (Some s) before now Fine refused why =
 
 pub refused_report_concludes : {X : Type 0} (bytes : List ℕ → Option (List ℕ))
     (before now : List ℕ → ℕ)
-    (name script : List ℕ) (refused : DescriptionRefused)
+    (name script : List ℕ) (workers : ℕ) (refused : DescriptionRefused)
     → IsWhyNoDescription (bytes name) (before name) (now name) refused
     → (result : Result X Status) → result ≡ Err (description_status refused)
-    → ConcludesAny bytes before now (Recognise name script) result
-refused_report_concludes bytes before now name script refused why result is =
-    refused_by bytes before now (Recognise name script) (description_status refused) result is
+    → ConcludesAny bytes before now (Recognise name script workers) result
+refused_report_concludes bytes before now name script workers refused why result is =
+    refused_by bytes before now (Recognise name script workers) (description_status refused)
+    result is
     (λ taken writes. report_by_bytes (bytes name) (bytes script) (before name) (now name)
     (Rose (before script) (now script) → ⊥) refused why)
 
-grounding_by_bytes : (description : Option (List ℕ)) (before now : ℕ)
-    (refused : DescriptionRefused) → IsWhyNoDescription description before now refused
+-- what a description alone comes to that is refused
+alone_by_bytes : (outcome : Described → Status)
+    → outcome TooLong ≡ status.TooLarge limit.Description
+    → ((why : DescFault) → outcome (Faulty why) ≡ status.BadDescription why)
+    → ((which : Limit) → outcome (Exceeds which) ≡ status.TooLarge which)
+    → (description : Option (List ℕ)) (before now : ℕ) (refused : DescriptionRefused)
+    → IsWhyNoDescription description before now refused
     → IfSome description (λ d. (Rose before now → ⊥)
     → (description_status refused ≡ status.OutOfMemory) ⊎ ((is : Described) × IsDescribed d is
-    × (description_status refused ≡ ground_outcome is)))
-grounding_by_bytes None before now refused why = tt
-grounding_by_bytes (Some d) before now refused why =
-    λ well. description_outcome (λ is t. t ≡ ground_outcome is) refl (λ fault. refl) (λ which.
-    refl) d before now refused why well
+    × (description_status refused ≡ outcome is)))
+alone_by_bytes outcome long faulty exceeds None before now refused why = tt
+alone_by_bytes outcome long faulty exceeds (Some d) before now refused why =
+    λ well. description_outcome (λ is t. t ≡ outcome is) (sym long) (λ fault. sym (faulty fault))
+    (λ which. sym (exceeds which)) d before now refused why well
 
 pub refused_grounding_concludes : {X : Type 0} (bytes : List ℕ → Option (List ℕ))
     (before now : List ℕ → ℕ)
@@ -71,7 +83,21 @@ pub refused_grounding_concludes : {X : Type 0} (bytes : List ℕ → Option (Lis
     → ConcludesAny bytes before now (Ground name) result
 refused_grounding_concludes bytes before now name refused why result is =
     refused_by bytes before now (Ground name) (description_status refused) result is
-    (λ taken writes. grounding_by_bytes (bytes name) (before name) (now name) refused why)
+    (λ taken writes. alone_by_bytes ground_outcome refl (λ fault. refl) (λ which. refl)
+    (bytes name) (before name) (now name) refused why)
+
+pub refused_simulation_concludes : {X : Type 0} (bytes : List ℕ → Option (List ℕ))
+    (before now : List ℕ → ℕ)
+    (name : List ℕ) (seed size workers : ℕ) (is_full : Bool) (refused : DescriptionRefused)
+    → IsWhyNoDescription (bytes name) (before name) (now name) refused
+    → (result : Result X Status) → result ≡ Err (description_status refused)
+    → ConcludesAny bytes before now (Simulate name seed size workers is_full) result
+refused_simulation_concludes bytes before now name seed size workers is_full refused why result
+    is =
+    refused_by bytes before now (Simulate name seed size workers is_full)
+    (description_status refused) result is
+    (λ taken writes. alone_by_bytes (simulate_outcome size) refl (λ fault. refl) (λ which. refl)
+    (bytes name) (before name) (now name) refused why)
 
 -- ---- a description that was taken
 
@@ -114,14 +140,15 @@ refused_by_bytes (Some s) before now found sound refused why =
 
 pub refused_script_concludes : {X : Type 0} (bytes : List ℕ → Option (List ℕ))
     (before now : List ℕ → ℕ)
-    (name script : List ℕ) (found : Description)
+    (name script : List ℕ) (workers : ℕ) (found : Description)
     → IsSoundDescription found → IfSome (bytes name) (λ text. IsDescriptionOf text found)
     → (refused : ScriptRefused)
     → IsWhyNoScript (bytes script) (before script) (now script) found.program refused
     → (result : Result X Status) → result ≡ Err (script_status refused)
-    → ConcludesAny bytes before now (Recognise name script) result
-refused_script_concludes bytes before now name script found sound described refused why result is =
-    refused_by bytes before now (Recognise name script) (script_status refused) result is
+    → ConcludesAny bytes before now (Recognise name script workers) result
+refused_script_concludes bytes before now name script workers found sound described refused why
+    result is =
+    refused_by bytes before now (Recognise name script workers) (script_status refused) result is
     (λ taken writes. taken_by_bytes (bytes name) (bytes script) found (script_status refused)
     (Rose (before name) (now name) → ⊥) (Rose (before script) (now script) → ⊥) described
     (refused_by_bytes (bytes script) (before script) (now script) found sound refused why))
@@ -143,28 +170,32 @@ given_by_bytes (Some s) Well found sound given is run =
     )
 
 pub report_concludes : {X : Type 0} (bytes : List ℕ → Option (List ℕ)) (before now : List ℕ → ℕ)
-    (name script : List ℕ) (found : Description)
+    (name script : List ℕ) (workers : ℕ) (found : Description)
     → IsSoundDescription found → IfSome (bytes name) (λ text. IsDescriptionOf text found)
     → (given : Script) → IfSome (bytes script) (λ text. IsScriptOf found.program text given)
     → DoRun found.program.plan (commands_of given.commands) → (text : X)
-    → ConcludesAny bytes before now (Recognise name script) (Ok text)
-report_concludes bytes before now name script found sound is given scripted run text =
+    → ConcludesAny bytes before now (Recognise name script workers) (Ok text)
+report_concludes bytes before now name script workers found sound is given scripted run text =
     λ taken writes. taken_by_bytes (bytes name) (bytes script) found status.Done
     (Rose (before name) (now name) → ⊥) (Rose (before script) (now script) → ⊥) is
     (given_by_bytes (bytes script) (Rose (before script) (now script) → ⊥) found sound given
     scripted run)
 
-grounding_taken : (description : Option (List ℕ)) (Well : Type 0) (found : Description)
+-- what a description alone comes to that was taken
+alone_taken : (outcome : Described → Status) (description : Option (List ℕ)) (Well : Type 0)
+    (found : Description) (t : Status)
     → IfSome description (λ d. IsDescriptionOf d found)
-    → IfSome description (λ d. Well → (status.Done ≡ status.OutOfMemory)
-    ⊎ ((is : Described) × IsDescribed d is × (status.Done ≡ ground_outcome is)))
-grounding_taken None Well found is = tt
-grounding_taken (Some d) Well found is =
+    → t ≡ outcome (Describes (map plain found.syntax.statements) (plain_checked found.checked)
+    found.layers.of_name)
+    → IfSome description (λ d. Well → (t ≡ status.OutOfMemory)
+    ⊎ ((is : Described) × IsDescribed d is × (t ≡ outcome is)))
+alone_taken outcome None Well found t is e = tt
+alone_taken outcome (Some d) Well found t is e =
     λ well. inr (
       Describes (map plain found.syntax.statements) (plain_checked found.checked)
           found.layers.of_name,
       is.described,
-      refl,
+      e,
     )
 
 pub grounding_concludes : {X : Type 0} (bytes : List ℕ → Option (List ℕ)) (before now : List ℕ → ℕ)
@@ -172,4 +203,80 @@ pub grounding_concludes : {X : Type 0} (bytes : List ℕ → Option (List ℕ)) 
     → IfSome (bytes name) (λ text. IsDescriptionOf text found) → (text : X)
     → ConcludesAny bytes before now (Ground name) (Ok text)
 grounding_concludes bytes before now name found is text =
-    λ taken writes. grounding_taken (bytes name) (Rose (before name) (now name) → ⊥) found is
+    λ taken writes. alone_taken ground_outcome (bytes name) (Rose (before name) (now name) → ⊥)
+    found status.Done is refl
+
+-- the status of a size
+abbrev size_status : Bool → Status
+size_status many = if many then status.TooLarge limit.Occurrences else status.Done
+
+size_so : (found : Description) (size : ℕ) (many : Bool) → IsSoundDescription found
+    → are_too_many found.program.plan size ≡ many
+    → size_status many ≡ simulate_outcome size (Describes (map plain found.syntax.statements)
+    (plain_checked found.checked) found.layers.of_name)
+size_so found size many sound is =
+    ap size_status (sym is
+    ∙ ap (λ (p : PlainProgram). are_too_many p.plan size) sound.is_program)
+
+pub size_concludes : {X : Type 0} (bytes : List ℕ → Option (List ℕ)) (before now : List ℕ → ℕ)
+    (name : List ℕ) (seed size workers : ℕ) (is_full : Bool) (found : Description)
+    → IsSoundDescription found → IfSome (bytes name) (λ text. IsDescriptionOf text found)
+    → are_too_many found.program.plan size ≡ true
+    → (result : Result X Status) → result ≡ Err (status.TooLarge limit.Occurrences)
+    → ConcludesAny bytes before now (Simulate name seed size workers is_full) result
+size_concludes bytes before now name seed size workers is_full found sound is many result e =
+    refused_by bytes before now (Simulate name seed size workers is_full)
+    (status.TooLarge limit.Occurrences) result e
+    (λ taken writes. alone_taken (simulate_outcome size) (bytes name)
+    (Rose (before name) (now name) → ⊥) found (status.TooLarge limit.Occurrences) is
+    (size_so found size true sound many))
+
+pub simulation_concludes : {X : Type 0} (bytes : List ℕ → Option (List ℕ))
+    (before now : List ℕ → ℕ) (name : List ℕ) (seed size workers : ℕ) (is_full : Bool)
+    (found : Description) → IsSoundDescription found
+    → IfSome (bytes name) (λ text. IsDescriptionOf text found)
+    → are_too_many found.program.plan size ≡ false → (given : X)
+    → ConcludesAny bytes before now (Simulate name seed size workers is_full) (Ok given)
+simulation_concludes bytes before now name seed size workers is_full found sound is few given =
+    λ taken writes. alone_taken (simulate_outcome size) (bytes name)
+    (Rose (before name) (now name) → ⊥) found status.Done is (size_so found size false sound few)
+
+-- ---- want of memory
+
+no_memory : (description : Option (List ℕ)) (P : List ℕ → Status → Type 0) (Well : Type 0)
+    → IfSome description (λ d. Well → (status.OutOfMemory ≡ status.OutOfMemory)
+    ⊎ P d status.OutOfMemory)
+no_memory None P Well = tt
+no_memory (Some d) P Well = λ well. inl refl
+
+no_memory_for_two : (description script : Option (List ℕ))
+    (P : List ℕ → List ℕ → Status → Type 0) (Fine Well : Type 0)
+    → IfSome description (λ d. IfSome script (λ s. Fine → Well
+    → (status.OutOfMemory ≡ status.OutOfMemory) ⊎ P d s status.OutOfMemory))
+no_memory_for_two None script P Fine Well = tt
+no_memory_for_two (Some d) None P Fine Well = tt
+no_memory_for_two (Some d) (Some s) P Fine Well = λ fine well. inl refl
+
+pub memory_concludes : (old new : World) (task : Task) → Concludes old new task status.OutOfMemory
+memory_concludes old new (Recognise description script workers) =
+    no_memory_for_two (old.bytes description) (old.bytes script)
+    (λ bytes others s. (described : Described) × IsDescribed bytes described
+    × IsRecogniseOutcome described others s) (ReadWell old new description)
+    (ReadWell old new script)
+memory_concludes old new (Ground description) =
+    no_memory (old.bytes description) (λ bytes s. (described : Described)
+    × IsDescribed bytes described × (s ≡ ground_outcome described))
+    (ReadWell old new description)
+memory_concludes old new (Simulate description seed size workers is_full) =
+    no_memory (old.bytes description) (λ bytes s. (described : Described)
+    × IsDescribed bytes described × (s ≡ simulate_outcome size described))
+    (ReadWell old new description)
+memory_concludes old new (Live description clock feeders readers workers) = tt
+
+pub no_memory_concludes : {X : Type 0} (bytes : List ℕ → Option (List ℕ))
+    (before now : List ℕ → ℕ) (task : Task) (result : Result X Status)
+    → result ≡ Err status.OutOfMemory → ConcludesAny bytes before now task result
+no_memory_concludes bytes before now task result is =
+    refused_by bytes before now task status.OutOfMemory result is
+    (λ taken writes. memory_concludes (world_of bytes before taken writes)
+    (world_of bytes now taken writes) task)

@@ -28,10 +28,11 @@ use Rattle.admit_core.specs.Log.{Log, IsKept, IsOfLog, AreOfLog}
 use Rattle.delay_revise.proofs.Staying.{seals_append, says_publication}
 use Rattle.delay_revise.specs.Revising.{Revising, IsPublished, MayTake, is_of, number_of, closed}
 use Rattle.text_pieces.specs.Lines.{text_of_lines}
-use Rattle.report_text.specs.Printed.{block_at, AreOf, AreSound, IsCounted, AreCounted}
+use Rattle.report_text.specs.Printed.{block_in, block_at, AreOf, AreSound, IsCounted, AreCounted}
 use Rattle.report_text.specs.Report.{block_lines, entry_lines, answer_lines, ask_lines}
 use Rattle.report_text.proofs.Wholes.{block_is}
-use Rattle.rtec_main.specs.Coursing.{ArePublished, reviser_of, IsAbreast, IsNextOn, IsNext, Publishes}
+use Rattle.rtec_main.specs.Coursing.{ArePublished, reviser_of, IsAbreast, IsNextOn, IsNext}
+use Rattle.rtec_main.specs.Coursing.{Publishes}
 use Rattle.rtec_main.specs.declared.course.Course.{Course}
 
 -- what a longer history keeps of what is published
@@ -264,27 +265,27 @@ last_number history =
     let one : seals (Seal (seals history) ∷ []) ≡ 1 = refl in
     omega (arith, seals_append history (Seal (seals history) ∷ []), one)
 
-published_last : (old mid new : Course) (before now : List ℕ) → IsAbreast old → mid ≡ opened old
-    → (p : Publishes mid new before now)
-    → IsPublished old.names (sealed_history old.log.history) (seals old.log.history) p.parts
-published_last old mid new before now a is p =
+published_last : (old mid new : Course) (parts : Parts) → IsAbreast old → mid ≡ opened old
+    → Publishes mid new parts
+    → IsPublished old.names (sealed_history old.log.history) (seals old.log.history) parts
+published_last old mid new parts a is p =
     let history : List Entry = sealed_history old.log.history in
-    subst (λ k. IsPublished old.names history k p.parts) (last_number old.log.history)
-    (subst (λ (r : Revising). IsPublished r.program r.taken (number_of r) p.parts)
+    subst (λ k. IsPublished old.names history k parts) (last_number old.log.history)
+    (subst (λ (r : Revising). IsPublished r.program r.taken (number_of r) parts)
     (opened_reviser old mid a is) p.is)
 
 -- after the publication of a seal
-pub abreast_sealed : Stays → (old mid new : Course) (before now : List ℕ) → IsAbreast old
-    → mid ≡ opened old → Publishes mid new before now → IsAbreast new
-abreast_sealed stays old mid new before now a is p =
+pub abreast_sealed : Stays → (old mid new : Course) (parts : Parts) → IsAbreast old
+    → mid ≡ opened old → Publishes mid new parts → IsAbreast new
+abreast_sealed stays old mid new parts a is p =
     let seal : List Entry = Seal (seals old.log.history) ∷ [] in
     let history : List Entry = sealed_history old.log.history in
     let one : seals seal ≡ 1 = refl in
     let names : new.names ≡ old.names = p.names ∙ ap (λ (c : Course). c.names) is in
     let log : new.log ≡ record old.log { history = history } =
     p.log ∙ ap (λ (c : Course). c.log) is in
-    let list : new.board ≡ old.board ++ p.parts ∷ [] =
-    p.board ∙ ap (λ (c : Course). c.board ++ p.parts ∷ []) is in
+    let list : new.board ≡ old.board ++ parts ∷ [] =
+    p.board ∙ ap (λ (c : Course). c.board ++ parts ∷ []) is in
     let reviser : new.reviser ≡ reviser_of old.names old.log.cap history =
     p.reviser ∙ ap closed (opened_reviser old mid a is) in
     record {
@@ -301,13 +302,13 @@ abreast_sealed stays old mid new before now a is p =
           (subst (λ h. ArePublished old.names h 0 new.board)
           (sym (ap (λ (l : Log). l.history) log))
           (subst (ArePublished old.names history 0) (sym list)
-          (published_push old.names history 0 (seals old.log.history) old.board p.parts
+          (published_push old.names history 0 (seals old.log.history) old.board parts
           (published_grow stays old.names old.log.history seal 0 old.board a.published)
-          (omega (arith, a.each)) (published_last old mid new before now a is p))));
+          (omega (arith, a.each)) (published_last old mid new parts a is p))));
       each = omega (
         arith,
         ap length list,
-        length-append old.board (p.parts ∷ []),
+        length-append old.board (parts ∷ []),
         a.each,
         ap (λ (l : Log). seals l.history) log,
         seals_append old.log.history seal,
@@ -326,19 +327,30 @@ next_there old mid a is =
       programs = (of_program old.names old.log.history old.board a.published).programs;
     }))
 
--- the block that is added is that of the seal
-pub sealed_text : (old mid new : Course) (before now : List ℕ) → IsAbreast old
-    → mid ≡ opened old → Publishes mid new before now
-    → now ≡ before ++ text_of_lines (flat_map (entry_lines old.names old.log.history)
-    (Seal (seals old.log.history) ∷ []))
-sealed_text old mid new before now a is p =
-    let history : List Entry = sealed_history old.log.history in
-    let last = published_last old mid new before now a is p in
-    p.block
-    ∙ ap (λ lines. before ++ text_of_lines lines)
-    (block_is old.names history (seals old.log.history) p.parts last.number last.program_is
-    last.rows last.evaluations_are
-    ∙ sym (append-nil (block_lines old.names history (seals old.log.history))))
+-- its block is that of the seal
+pub sealed_block : (old mid new : Course) (parts : Parts) → IsAbreast old → mid ≡ opened old
+    → Publishes mid new parts
+    → block_in parts ≡ block_lines old.names (sealed_history old.log.history)
+    (seals old.log.history)
+sealed_block old mid new parts a is p =
+    let last = published_last old mid new parts a is p in
+    block_is old.names (sealed_history old.log.history) (seals old.log.history) parts last.number
+    last.program_is last.rows last.evaluations_are
+
+-- and its program is that of the course
+pub sealed_program : (old mid new : Course) (parts : Parts) → IsSound old.names → IsAbreast old
+    → mid ≡ opened old → Publishes mid new parts → IsSound parts.program
+sealed_program old mid new parts sound a is p =
+    subst IsSound (sym (published_last old mid new parts a is p).program_is) sound
+
+-- the lines of a seal are its block
+pub seal_lines : (program : Program) (history : List Entry) (before now : List ℕ)
+    → now ≡ before ++ text_of_lines (block_lines program (sealed_history history) (seals history))
+    → now ≡ before ++ text_of_lines (flat_map (entry_lines program history)
+    (Seal (seals history) ∷ []))
+seal_lines program history before now is =
+    is ∙ ap (λ lines. before ++ text_of_lines lines)
+    (sym (append-nil (block_lines program (sealed_history history) (seals history))))
 
 -- for each seal its publication is there
 pub all_published : (course : Course) → IsAbreast course

@@ -1,3 +1,4 @@
+pub mod Asked
 pub mod Concluding
 pub mod CountedPrograms
 pub mod Courses

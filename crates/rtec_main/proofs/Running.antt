@@ -1,5 +1,6 @@
 -- What the answer of a task says of a run.
-use Rattle.std.proofs.Common.{◌≡◌, inl, inr, ℕ, List, map, Option, Result, Err, sym, subst}
+use Rattle.std.proofs.Common.{◌≡◌, inl, inr, ℕ, Bool, true, false, List, map, Option, Result, Err}
+use Rattle.std.proofs.Common.{sym, ap, ◌∙◌, subst}
 use Rattle.std.specs.Prelude.{IfSome}
 use Rattle.rtec_main.specs.declared.job.Job.{Job}
 use Rattle.std.proofs.lemmas.Option.{IfSome_then}
@@ -9,13 +10,21 @@ use Rattle.stream_read.specs.declared.script.Script.{Script}
 use Rattle.rtec_main.specs.declared.inputs.Description.{Description}
 use Rattle.rtec_main.specs.declared.script.ScriptRefused.{ScriptRefused}
 use Rattle.run_status.specs.declared.status.Status.{Status}
+use Rattle.run_status.specs.declared.status.Status.TheVariants as status
+use Rattle.rt_base.specs.declared.limit.Limit.TheVariants as limit
+use Rattle.ground_types.specs.declared.entries.Command.{Command}
+use Rattle.ground_types.specs.declared.program.Program.{Program}
+use Rattle.workload_draw.specs.Workload.{workload_of}
+use Rattle.rtec_main.specs.declared.simulate.Workload.{Workload}
+use Rattle.rtec_main.specs.Simulated.{asked_text}
 use Rattle.rtec_main.specs.Described.{IsDescribed, Describes}
-use Rattle.rtec_main.specs.Script.{commands_of, IsScriptOf, DoRun}
+use Rattle.rtec_main.specs.Script.{commands_of, are_too_many, IsScriptOf, DoRun}
 use Rattle.report_text.specs.Report.{report_text}
 use Rattle.ground_text.specs.GroundText.{ground_text}
 use Rattle.rtec_main.specs.Reads.{IsDescriptionOf, IsSoundDescription, IsWhyNoScript, script_status}
-use Rattle.rtec_main.specs.Run.{World, Recognise, Runs, IsReport, IsGrounding}
-use Rattle.rtec_main.specs.Tasks.{world_of, report_by, Gives, Answers}
+use Rattle.command_words.specs.Words.{Recognise, Simulate}
+use Rattle.rtec_main.specs.Run.{World, Runs, IsReport, IsGrounding, IsSimulation}
+use Rattle.rtec_main.specs.Tasks.{world_of, report_by, simulated_by, Gives, Answers}
 use Rattle.rtec_main.proofs.Refusals.{script_says}
 
 -- ---- the answers of `report_of` and `grounding_of`
@@ -27,7 +36,7 @@ found_described : (bytes : Option (List ℕ)) (found : Description)
     (plain_checked found.checked) found.layers.of_name))
 found_described bytes found is = IfSome_then bytes is (λ text of. of.described)
 
-runs_by : (world : World) (name : List ℕ) (found : Description) → IsSoundDescription found
+pub runs_by : (world : World) (name : List ℕ) (found : Description) → IsSoundDescription found
     → IfSome (world.bytes name) (λ text. IsDescriptionOf text found)
     → Runs world name found.program
 runs_by world name found sound is = record {
@@ -39,26 +48,27 @@ runs_by world name found sound is = record {
 }
 
 -- a refused script
-refused_script_gives : (old new : World) (name script : List ℕ) (found : Description)
+refused_script_gives : (old new : World) (name script : List ℕ) (workers : ℕ)
+    (found : Description)
     → IsSoundDescription found → IfSome (old.bytes name) (λ text. IsDescriptionOf text found)
     → (refused : ScriptRefused)
     → IsWhyNoScript (old.bytes script) (old.faults script) (new.faults script) found.program refused
-    → Gives report_by old new (Recognise name script) (Err (script_status refused))
-refused_script_gives old new name script found sound is refused why =
+    → Gives report_by old new (Recognise name script workers) (Err (script_status refused))
+refused_script_gives old new name script workers found sound is refused why =
     elim (script_says old new name script found.program (runs_by old name found sound is) refused
     why) [ inl e ↦ inl e | inr says ↦ inr (inr says) ]
 
 pub refused_script : (bytes : List ℕ → Option (List ℕ)) (before now : List ℕ → ℕ)
-    (name script : List ℕ) (found : Description)
+    (name script : List ℕ) (workers : ℕ) (found : Description)
     → IsSoundDescription found → IfSome (bytes name) (λ text. IsDescriptionOf text found)
     → (refused : ScriptRefused)
     → IsWhyNoScript (bytes script) (before script) (now script) found.program refused
     → (result : Result Job Status) → result ≡ Err (script_status refused)
-    → Answers report_by bytes before now (Recognise name script) result
-refused_script bytes before now name script found sound described refused why result is =
-    subst (Answers report_by bytes before now (Recognise name script)) (sym is)
+    → Answers report_by bytes before now (Recognise name script workers) result
+refused_script bytes before now name script workers found sound described refused why result is =
+    subst (Answers report_by bytes before now (Recognise name script workers)) (sym is)
     (λ taken writes. refused_script_gives (world_of bytes before taken writes)
-    (world_of bytes now taken writes) name script found sound described refused why)
+    (world_of bytes now taken writes) name script workers found sound described refused why)
 
 -- a report
 pub report_given : (old : World) (name script : List ℕ) (found : Description)
@@ -88,3 +98,39 @@ grounding_given old name found is text e = record {
   is_described = found_described (old.bytes name) found is;
   is = e;
 }
+
+-- ---- a workload
+
+-- a size that is refused
+pub refused_size : (bytes : List ℕ → Option (List ℕ)) (before now : List ℕ → ℕ) (name : List ℕ)
+    (seed size workers : ℕ) (is_full : Bool) (found : Description) → IsSoundDescription found
+    → IfSome (bytes name) (λ text. IsDescriptionOf text found)
+    → are_too_many found.program.plan size ≡ true
+    → (result : Result Workload Status) → result ≡ Err (status.TooLarge limit.Occurrences)
+    → Answers (simulated_by is_full) bytes before now (Simulate name seed size workers is_full)
+    result
+refused_size bytes before now name seed size workers is_full found sound is many result e =
+    subst (Answers (simulated_by is_full) bytes before now
+    (Simulate name seed size workers is_full)) (sym e)
+    (λ taken writes. inr (inr (
+      found.program,
+      runs_by (world_of bytes before taken writes) name found sound is,
+      many,
+    )))
+
+-- a workload that is within the limit
+pub simulation_given : (old : World) (name : List ℕ) (seed size : ℕ) (is_full : Bool)
+    (found : Description) → IsSoundDescription found
+    → IfSome (old.bytes name) (λ text. IsDescriptionOf text found)
+    → are_too_many found.program.plan size ≡ false
+    → (program : Program) (commands : List Command) → program ≡ found.program
+    → commands ≡ workload_of program seed size
+    → IsSimulation old name seed size is_full (asked_text is_full program commands 0)
+simulation_given old name seed size is_full found sound is few program commands same drawn =
+    record {
+      program = found.program;
+      runs = runs_by old name found sound is;
+      few = few;
+      is = ap (λ c. asked_text is_full program c 0) drawn
+          ∙ ap (λ p. asked_text is_full p (workload_of p seed size) 0) same;
+    }

@@ -22,7 +22,7 @@ with_none None = refl
 with_none (Some bytes) = ap (λ (b : List ℕ). Some b) (sym (append-nil bytes))
 
 -- nothing is written yet
-way_starts : (taken : Option (List ℕ)) (text : List ℕ) → IsOnWay taken taken text text
+pub way_starts : (taken : Option (List ℕ)) (text : List ℕ) → IsOnWay taken taken text text
 way_starts taken text = record { written = []; is = refl; taken = with_none taken }
 
 -- all is written

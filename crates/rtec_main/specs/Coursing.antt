@@ -1,6 +1,6 @@
 -- For private functions alone: what a run has come to after some of its commands.
-use Rattle.std.specs.Prelude.{◌≡◌, ◌<◌, ℕ, ◌+◌, false, List, [], ◌∷◌, ◌++◌, length, slice_get}
-use Rattle.std.specs.Prelude.{Some}
+use Rattle.std.specs.Prelude.{◌≡◌, ◌<◌, ℕ, ◌+◌, Bool, true, false, List, [], ◌∷◌, ◌++◌, length}
+use Rattle.std.specs.Prelude.{slice_get, Some}
 use Rattle.ground_types.specs.History.{seals}
 use Rattle.ground_types.specs.declared.entries.Command.{Command}
 use Rattle.ground_types.specs.declared.entries.Command.TheVariants as command
@@ -9,8 +9,9 @@ use Rattle.ground_types.specs.declared.program.Program.{Program}
 use Rattle.query_ask.specs.Right.{Parts}
 use Rattle.admit_core.specs.Log.{Log}
 use Rattle.delay_revise.specs.Revising.{Revising, none_kept, closed, number_of, IsPublished}
+use Rattle.stream_read.specs.Scripts.{IsOfProgram}
 use Rattle.text_pieces.specs.Lines.{text_of_lines}
-use Rattle.report_text.specs.Printed.{block_in}
+use Rattle.report_text.specs.Report.{command_lines}
 use Rattle.rtec_main.specs.declared.course.Course.{Course}
 
 -- publications of the queries from this number on, in order
@@ -60,12 +61,21 @@ HasPlace log (command.Feed feeder act event at) = length log.history < log.cap
 HasPlace log command.Seal = (length log.history < log.cap) × (seals log.history < log.plan.queries)
 HasPlace log other = Unit {0}
 
--- a publication of the open chunk is made, its block is added, and it goes on the board
-pub record Publishes (old new : Course) (before now : List ℕ) : Type 0 where
-  pub parts : Parts
+-- a publication of the open chunk is made, and goes on the board
+pub record Publishes (old new : Course) (parts : Parts) : Type 0 where
   pub is : IsPublished old.reviser.program old.reviser.taken (number_of old.reviser) parts
   pub board : new.board ≡ old.board ++ parts ∷ []
   pub reviser : new.reviser ≡ closed old.reviser
   pub names : new.names ≡ old.names
   pub log : new.log ≡ old.log
-  pub block : now ≡ before ++ text_of_lines (block_in parts)
+
+-- each command is of the program
+abbrev pub AreCommandsOf : Program → List Command → Type 0
+AreCommandsOf program [] = Unit {0}
+AreCommandsOf program (command ∷ rest) = IsOfProgram program command
+    × AreCommandsOf program rest
+
+-- what stands before the end of the text that is asked for
+abbrev pub lead_text : Bool → Program → List Command → List ℕ
+lead_text true program commands = text_of_lines (command_lines program [] commands)
+lead_text false program commands = []

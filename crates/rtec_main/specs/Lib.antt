@@ -1,5 +1,6 @@
 pub mod Described
 pub mod Script
+pub mod Simulated
 pub mod Writes
 pub mod Coursing
 pub mod Run

@@ -1,8 +1,7 @@
 -- Public contracts speak by this: what a run ends with, one case for each status.
-use Rattle.std.specs.Prelude.{◌≡◌, ◌⊎◌, ◌≤◌, ◌<◌, ℕ, zero, suc, not, nat_lt, Bool, true, false}
-use Rattle.std.specs.Prelude.{◌&&◌, ◌==◌, if◌then◌else◌, List, [], ◌∷◌, length, take, codes, IfSome}
-use Rattle.std.specs.Prelude.{Option, Some, None, Result, Ok, Err}
-use Rattle.std.specs.Str.{bytes_eq}
+use Rattle.std.specs.Prelude.{◌≡◌, ◌⊎◌, ◌≤◌, ◌<◌, ℕ, zero, suc, nat_lt, Bool, true, false}
+use Rattle.std.specs.Prelude.{if◌then◌else◌, List, length, take, IfSome, Option, Some, None, Result}
+use Rattle.std.specs.Prelude.{Ok, Err}
 use Rattle.rt_base.specs.Outside.{Rose, with_bytes}
 use Rattle.rt_base.specs.declared.limit.Limit.TheVariants as limit
 use Rattle.ground_types.specs.declared.program.Program.{Program}
@@ -16,32 +15,15 @@ use Rattle.rtec_main.specs.Described.{IsProgramOf}
 use Rattle.ground_types.specs.declared.entries.Command.{Command}
 use Rattle.ground_types.specs.declared.plan.Plan.{Plan}
 use Rattle.rtec_main.specs.Script.{longest, merged, IsScriptOf, commands_of, HasCommands}
-use Rattle.rtec_main.specs.Script.{exceeds_seals, exceeds_occurrences, DoRun}
+use Rattle.rtec_main.specs.Script.{exceeds_seals, are_too_many, exceeds_occurrences, DoRun}
+use Rattle.rtec_main.specs.Simulated.{asked_text}
+use Rattle.workload_draw.specs.Workload.{workload_of}
+use Rattle.command_words.specs.Words.{Task, Recognise, Ground, Simulate, Live}
 use Rattle.report_text.specs.Report.{report_text}
 use Rattle.ground_text.specs.GroundText.{ground_text}
 use Rattle.run_status.specs.declared.status.ScriptFault.TheVariants as fault
 use Rattle.run_status.specs.declared.status.Status.{Status}
 use Rattle.run_status.specs.declared.status.Status.TheVariants as status
-
--- a file name is not empty and does not begin with `-`
-abbrev pub is_file : List ℕ → Bool
-is_file [] = false
-is_file (c ∷ cs) = not (c == 45)
-
--- What words ask for: `recognise DESC SCRIPT` or `ground DESC`.
-pub data Task : Type 0 where
-  Recognise : List ℕ → List ℕ → Task
-  Ground : List ℕ → Task
-
--- the task of the words, where they are of one of these forms
-abbrev pub task_of : List (List ℕ) → Option Task
-task_of (command ∷ description ∷ script ∷ []) =
-    if bytes_eq command (codes "recognise") && is_file description && is_file script
-    then Some (Recognise description script) else None
-task_of (command ∷ description ∷ []) =
-    if bytes_eq command (codes "ground") && is_file description then Some (Ground description)
-    else None
-task_of words = None
 
 -- what inputs tell and how often they failed, and what a sink took and how often it failed
 pub record World : Type 0 where
@@ -87,10 +69,22 @@ pub record IsGrounding (world : World) (description text : List ℕ) : Type 0 wh
       (Describes statements checked of_name))
   pub is : text ≡ ground_text statements checked of_name
 
+-- the text is that of the workload of this seed and size, which is not too large: its report, or
+-- the end of it alone
+pub record IsSimulation (world : World) (description : List ℕ) (seed size : ℕ) (is_full : Bool)
+    (text : List ℕ) : Type 0 where
+  pub program : Program
+  pub runs : Runs world description program
+  pub few : are_too_many program.plan size ≡ false
+  pub is : text ≡ asked_text is_full program (workload_of program seed size) 0
+
 -- the text is the one that the task asks for
 abbrev pub IsText : World → Task → List ℕ → Type 0
-IsText world (Recognise description script) text = IsReport world description script text
+IsText world (Recognise description script workers) text = IsReport world description script text
 IsText world (Ground description) text = IsGrounding world description text
+IsText world (Simulate description seed size workers is_full) text =
+    IsSimulation world description seed size is_full text
+IsText world (Live description clock feeders readers workers) text = ⊥
 
 -- nothing was written, and no write failed
 abbrev pub WritesNothing : World → World → Type 0
@@ -163,18 +157,35 @@ RefusesScript old new description script (status.TooLarge limit.Occurrences) =
     × (exceeds_occurrences program.plan commands ≡ true)))
 RefusesScript old new description script other = ⊥
 
+-- what a status says that refuses the size of a workload
+abbrev pub RefusesSize : World → List ℕ → ℕ → Status → Type 0
+RefusesSize old description size (status.TooLarge limit.Occurrences) =
+    (program : Program) × Runs old description program × (are_too_many program.plan size ≡ true)
+RefusesSize old description size other = ⊥
+
 -- what a status says that refuses what the task reads. Each case repeats that the tests before it
 -- passed.
 abbrev pub Refuses : World → World → Task → Status → Type 0
-Refuses old new (Recognise description script) s = RefusesDescription old new description s
+Refuses old new (Recognise description script workers) s = RefusesDescription old new description s
     ⊎ RefusesScript old new description script s
 Refuses old new (Ground description) s = RefusesDescription old new description s
+Refuses old new (Simulate description seed size workers is_full) s =
+    RefusesDescription old new description s ⊎ RefusesSize old description size s
+Refuses old new (Live description clock feeders readers workers) s = ⊥
 
--- what want of memory leaves: no write failed, and nothing is written, or a beginning of a report
+-- no write failed, and nothing is written, or a beginning of the text
+abbrev pub LeavesPart : World → World → Task → Type 0
+LeavesPart old new task = WritesNothing old new
+    ⊎ (WritesPart old new task × (new.write_faults ≡ old.write_faults))
+
+-- what want of memory leaves
 abbrev pub Leaves : World → World → Task → Type 0
-Leaves old new (Recognise description script) = WritesNothing old new
-    ⊎ (WritesPart old new (Recognise description script) × (new.write_faults ≡ old.write_faults))
+Leaves old new (Recognise description script workers) =
+    LeavesPart old new (Recognise description script workers)
 Leaves old new (Ground description) = WritesNothing old new
+Leaves old new (Simulate description seed size workers is_full) =
+    LeavesPart old new (Simulate description seed size workers is_full)
+Leaves old new (Live description clock feeders readers workers) = WritesNothing old new
 
 -- What a status says, where the words ask for something. Want of memory alone has no cause.
 abbrev pub Means : World → World → Task → Status → Type 0
@@ -184,10 +195,16 @@ Means old new task status.WriteFault = Rose old.write_faults new.write_faults
 Means old new task status.OutOfMemory = Leaves old new task
 Means old new task s = Refuses old new task s × WritesNothing old new
 
--- what a status says: where the words ask for nothing, that they do not, and that nothing else
--- happened
+-- the words ask for nothing, or memory ran out, and nothing else happened
+abbrev pub AsksNothing : World → World → Status → Type 0
+AsksNothing old new s = ((s ≡ status.BadWords) ⊎ (s ≡ status.OutOfMemory)) × (new ≡ old)
+
+-- what a status says: where the words ask for nothing, that they do not (those of `live` ask for
+-- nothing here)
 abbrev pub MeansOfWords : World → World → Option Task → Status → Type 0
-MeansOfWords old new None s = (s ≡ status.BadWords) × (new ≡ old)
+MeansOfWords old new None s = AsksNothing old new s
+MeansOfWords old new (Some (Live description clock feeders readers workers)) s =
+    AsksNothing old new s
 MeansOfWords old new (Some task) s = Means old new task s
 
 -- ---- the other way round: which status told bytes come to
@@ -230,17 +247,32 @@ ground_outcome (Faulty why) = status.BadDescription why
 ground_outcome (Exceeds which) = status.TooLarge which
 ground_outcome (Describes statements checked of_name) = status.Done
 
+-- the status that a description and the size of a workload come to
+abbrev pub simulate_outcome : ℕ → Described → Status
+simulate_outcome size TooLong = status.TooLarge limit.Description
+simulate_outcome size (Faulty why) = status.BadDescription why
+simulate_outcome size (Exceeds which) = status.TooLarge which
+simulate_outcome size (Describes statements checked of_name) =
+    if are_too_many checked.plan size then status.TooLarge limit.Occurrences else status.Done
+
+-- the status is what the bytes of a description come to, or memory ran out
+abbrev pub ConcludesAlone : World → World → List ℕ → (Described → Status) → Status → Type 0
+ConcludesAlone old new description outcome s =
+    Told old description (λ bytes. ReadWell old new description →
+    (s ≡ status.OutOfMemory) ⊎ ((described : Described) × IsDescribed bytes described
+    × (s ≡ outcome described)))
+
 -- where the files are told and read well, the status is what their bytes come to, or memory ran out
 abbrev pub Concludes : World → World → Task → Status → Type 0
-Concludes old new (Recognise description script) s =
+Concludes old new (Recognise description script workers) s =
     Told old description (λ bytes. Told old script (λ others. ReadWell old new description
     → ReadWell old new script →
     (s ≡ status.OutOfMemory) ⊎ ((described : Described) × IsDescribed bytes described
     × IsRecogniseOutcome described others s)))
-Concludes old new (Ground description) s =
-    Told old description (λ bytes. ReadWell old new description →
-    (s ≡ status.OutOfMemory) ⊎ ((described : Described) × IsDescribed bytes described
-    × (s ≡ ground_outcome described)))
+Concludes old new (Ground description) s = ConcludesAlone old new description ground_outcome s
+Concludes old new (Simulate description seed size workers is_full) s =
+    ConcludesAlone old new description (simulate_outcome size) s
+Concludes old new (Live description clock feeders readers workers) s = Unit {0}
 
 -- Where no write failed either, so it is. (What a text is as a description is determined.)
 abbrev pub Completes : World → World → Option Task → Status → Type 0

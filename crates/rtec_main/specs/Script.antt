@@ -1,9 +1,8 @@
 -- Public contracts speak by this: merged scripts, and those that `recognise` runs: they are within
 -- the limits on seals and occurrences.
-use Rattle.std.specs.Prelude.{◌≡◌, ◌≤◌, ℕ, ◌+◌, ◌-◌, ◌*◌, ◌/◌, min, nat_lt, Bool, true, false, List}
-use Rattle.std.specs.Prelude.{length, map, count_by, Result, Ok}
+use Rattle.std.specs.Prelude.{◌≡◌, ◌≤◌, ℕ, ◌+◌, ◌-◌, ◌*◌, ◌/◌, min, nat_lt, Bool, false, List}
+use Rattle.std.specs.Prelude.{length, map, Result, Ok}
 use Rattle.ground_types.specs.declared.entries.Command.{Command}
-use Rattle.ground_types.specs.declared.entries.Command.TheVariants.{Feed, Seal}
 use Rattle.ground_types.specs.declared.plan.Plan.{Plan}
 use Rattle.ground_types.specs.declared.program.Program.{Program}
 use Rattle.stream_read.specs.Scripts.{records_of, script_of}
@@ -11,6 +10,7 @@ use Rattle.stream_read.specs.declared.script.Placed.{Placed}
 use Rattle.stream_read.specs.declared.script.Script.{Script}
 use Rattle.stream_read.specs.declared.script.Shape.TheVariants as shape
 use Rattle.stream_read.specs.declared.script.StreamRefused.{StreamRefused}
+use Rattle.workload_draw.specs.Counts.{seal_count, feed_count}
 
 -- the longest script, in bytes
 abbrev pub longest : ℕ
@@ -28,21 +28,6 @@ pub record IsScriptOf (program : Program) (text : List ℕ) (found : Script) : T
 abbrev pub commands_of : List Placed → List Command
 commands_of placed = map (λ p. p.command) placed
 
-abbrev pub is_seal : Command → Bool
-is_seal Seal = true
-is_seal command = false
-
--- an add or a revoke
-abbrev pub is_feed : Command → Bool
-is_feed (Feed feeder act event at) = true
-is_feed command = false
-
-abbrev pub seal_count : List Command → ℕ
-seal_count commands = count_by is_seal commands
-
-abbrev pub feed_count : List Command → ℕ
-feed_count commands = count_by is_feed commands
-
 -- how many entries they make: one for each add, revoke and seal
 abbrev pub entry_count : List Command → ℕ
 entry_count commands = feed_count commands + seal_count commands
@@ -56,12 +41,12 @@ exceeds_seals plan commands = nat_lt plan.queries (seal_count commands)
 abbrev pub windows_of_event : Plan → ℕ
 windows_of_event plan = min plan.queries ((plan.window + plan.step - 1) / plan.step)
 
--- how often the events of the adds and revokes may lie in a window
-abbrev pub occurrences : Plan → List Command → ℕ
-occurrences plan commands = feed_count commands * windows_of_event plan
+-- the events of so many adds and revokes may lie in a window too often
+abbrev pub are_too_many : Plan → ℕ → Bool
+are_too_many plan feeds = nat_lt 16777216 (feeds * windows_of_event plan)
 
 abbrev pub exceeds_occurrences : Plan → List Command → Bool
-exceeds_occurrences plan commands = nat_lt 16777216 (occurrences plan commands)
+exceeds_occurrences plan commands = are_too_many plan (feed_count commands)
 
 -- the commands run: seals and occurrences are within their limits
 pub record DoRun (plan : Plan) (commands : List Command) : Type 0 where

@@ -1,18 +1,20 @@
 -- For private functions alone: what the code lends of a task, and what the text of a task comes
 -- to before anything is written.
-use Rattle.std.specs.Prelude.{◌≡◌, ◌⊎◌, ℕ, List, Option, Result, Ok, Err}
+use Rattle.std.specs.Prelude.{◌≡◌, ◌⊎◌, ◌≤◌, ℕ, Bool, List, Option, Some, Result, Ok, Err}
 use Rattle.report_text.specs.Report.{report_text}
 use Rattle.rtec_main.specs.Script.{commands_of}
 use Rattle.rtec_main.specs.declared.job.Job.{Job}
-use Rattle.rtec_main.specs.declared.words.Task.{Task as LentTask}
-use Rattle.rtec_main.specs.declared.words.Task.TheVariants as lent
+use Rattle.rtec_main.specs.declared.simulate.Workload.{Workload}
+use Rattle.command_words.specs.Words.{Task, Simulate}
 use Rattle.run_status.specs.declared.status.Status.{Status}
 use Rattle.run_status.specs.declared.status.Status.TheVariants as status
-use Rattle.rtec_main.specs.Run.{World, Task, Recognise, Ground, IsText, Refuses, Concludes}
+use Rattle.rtec_main.specs.Run.{World, IsText, Refuses, Concludes}
+use Rattle.rtec_main.specs.Simulated.{asked_text}
 
-abbrev pub task_by : LentTask → Task
-task_by (lent.Recognise description script) = Recognise description.now script.now
-task_by (lent.Ground description) = Ground description.now
+-- a workload that is asked for has a size
+abbrev pub IsSized : Option Task → Type 0
+IsSized (Some (Simulate description seed size workers is_full)) = 1 ≤ size
+IsSized other = Unit {0}
 
 -- inputs beside a sink that took this
 abbrev pub world_of : (List ℕ → Option (List ℕ)) → (List ℕ → ℕ) → Option (List ℕ) → ℕ → World
@@ -26,6 +28,10 @@ world_of bytes faults taken write_faults = record {
 -- the report that a job asks for
 abbrev pub report_by : Job → List ℕ
 report_by job = report_text job.program (commands_of job.script.commands) job.script.ignored
+
+-- what is asked for of a workload
+abbrev pub simulated_by : Bool → Workload → List ℕ
+simulated_by is_full workload = asked_text is_full workload.program workload.commands.items 0
 
 -- what the text of the task is made of, or why there is none
 abbrev pub Gives : {X : Type 0} → (X → List ℕ) → World → World → Task → Result X Status → Type 0

@@ -1,5 +1,5 @@
 // What a run has come to: what was told and answered, what revises it, and what is published.
-ghost use Rattle.std.specs.Prelude.{◌≡◌, ◌<◌, ◌≤◌, ◌++◌, ◌∷◌, [], ℕ, true, List, length, flat_map};
+ghost use Rattle.std.specs.Prelude.{◌≡◌, ◌<◌, ◌≤◌, ◌++◌, ◌∷◌, [], ℕ, true, List, length};
 ghost use Rattle.std.specs.Prelude.{OnOk, IfOk, map};
 ghost use Rattle.std.specs.List.{list_all};
 ghost use Rattle.std.specs.Arc.{arc_value};
@@ -13,7 +13,8 @@ ghost use Rattle.query_ask.specs.Right.{Parts};
 ghost use Rattle.delay_revise.specs.Revising.{MayTake, IsPublished, number_of, closed};
 ghost use Rattle.stream_read.specs.Scripts.{IsOfProgram};
 ghost use Rattle.text_pieces.specs.Lines.{text_of_lines};
-ghost use Rattle.report_text.specs.Report.{entries_of, entry_lines, entry_line, ask_lines, lines_of};
+ghost use Rattle.report_text.specs.Report.{entries_of, entry_line, block_lines, ask_lines};
+ghost use Rattle.report_text.specs.Report.{lines_of};
 ghost use Rattle.report_text.specs.Printed.{block_in};
 ghost use Rattle.rtec_main.specs.Coursing.{IsAbreast, IsNext, HasPlace, Publishes};
 
@@ -23,7 +24,7 @@ use ground_names::EventNames;
 use ground_types::{Act, Command, Entry, EventId, Point, Program, Query};
 use layer_workers::OneByOne;
 use publish_shelf::{Board, PlainBoard};
-use query_ask::ask;
+use query_ask::{Publication, ask};
 use report_text::{EntryLine, answer_law, put_answer, put_block, put_entry};
 use rt_base::{OutOfMemory, Steps};
 use std::alloc::Global;
@@ -77,6 +78,33 @@ impl<'a> Course<'a> {
     }
 }
 
+// Admits an add or a revoke.
+fn admit(course: &mut Course, feeder: u8, act: Act, event: EventId, at: Point) -> Entry
+    requires feeder { (1 ≤ feeder) × (feeder ≤ 8) }
+    requires event { event < course.old.log.events }
+    requires room { length course.old.log.history < course.old.log.cap }
+    ensures entry { result ≡ Fed feeder act event at
+        (reply_to course.old.log.plan course.old.log.history act event at) }
+    ensures course { course.new ≡ record course.old {
+      log = record course.old.log {
+        history = course.old.log.history ++ Fed feeder act event at
+            (reply_to course.old.log.plan course.old.log.history act event at) ∷ [];
+      };
+    } }
+{
+    let reply = match course.log.admit(feeder, act, event, at) {
+        Ok(reply) => reply,
+        Err(LogFull) => unreachable!(),
+    };
+    Entry::Fed {
+        feeder,
+        act,
+        event,
+        at,
+        reply,
+    }
+}
+
 // Admits an add or a revoke, and adds its line.
 fn put_feed(
     course: &mut Course,
@@ -100,17 +128,7 @@ fn put_feed(
         (entry_line course.old.names feeder act event at
         (reply_to course.old.log.plan course.old.log.history act event at) ∷ [])) }
 {
-    let reply = match course.log.admit(feeder, act, event, at) {
-        Ok(reply) => reply,
-        Err(LogFull) => unreachable!(),
-    };
-    let entry = Entry::Fed {
-        feeder,
-        act,
-        event,
-        at,
-        reply,
-    };
+    let entry = admit(course, feeder, act, event, at);
     put_entry(&course.names, &mut course.line, entry, text)
 }
 
@@ -138,24 +156,73 @@ fn seal(course: &mut Course)
     course.reviser.take_chunk(&history[taken..]);
 }
 
-// Makes the publication of the open chunk and adds its block. It goes on the board.
+// Makes the publication of the open chunk. It goes on the board.
 fn publish<R: Threads + Sync>(
+    rt: &R,
+    course: &mut Course,
+    steps: &mut Steps<Brand>,
+) -> Result<Arc<Publication>, OutOfMemory>
+    requires chunk { course.old.reviser.has_chunk ≡ true }
+    requires next { IsNext course.old }
+    ensures publishes { IfOk result (λ publication. Publishes course.old course.new
+        (arc_value publication)) }
+    ensures parts { steps.new.out ≡ steps.old.out }
+{
+    let publication = course.reviser.revise(rt, &OneByOne, steps)?;
+    course.board.put(&publication)?;
+    Ok(publication)
+}
+
+// Seals the next query and publishes it.
+fn take_seal<R: Threads + Sync>(
+    rt: &R,
+    course: &mut Course,
+    steps: &mut Steps<Brand>,
+) -> Result<Arc<Publication>, OutOfMemory>
+    requires sound { IsSound course.old.names }
+    requires abreast { IsAbreast course.old }
+    requires room { length course.old.log.history < course.old.log.cap }
+    requires queries { seals course.old.log.history < course.old.log.plan.queries }
+    ensures abreast { OnOk result (IsAbreast course.new) }
+    ensures names { OnOk result (course.new.names ≡ course.old.names) }
+    ensures log { OnOk result (course.new.log ≡ record course.old.log {
+      history = course.old.log.history ++ Seal (seals course.old.log.history) ∷ [];
+    }) }
+    ensures block { IfOk result (λ publication. block_in (arc_value publication)
+        ≡ block_lines course.old.names (course.old.log.history
+        ++ Seal (seals course.old.log.history) ∷ []) (seals course.old.log.history)) }
+    ensures program { IfOk result (λ publication. IsSound (arc_value publication).program) }
+    ensures parts { steps.new.out ≡ steps.old.out }
+{
+    // (what is published stays right as the history grows)
+    published_stays();
+    seal(course);
+    publish(rt, course, steps)
+}
+
+// Seals the next query, and adds the block of its publication.
+fn put_seal<R: Threads + Sync>(
     rt: &R,
     course: &mut Course,
     steps: &mut Steps<Brand>,
     text: &mut Vec<u8>,
 ) -> Result<(), OutOfMemory>
-    requires chunk { course.old.reviser.has_chunk ≡ true }
-    requires sound { IsSound course.old.reviser.program }
-    requires next { IsNext course.old }
-    ensures publishes { OnOk result (Publishes course.old course.new text.old.items
-        text.new.items) }
+    requires sound { IsSound course.old.names }
+    requires abreast { IsAbreast course.old }
+    requires room { length course.old.log.history < course.old.log.cap }
+    requires queries { seals course.old.log.history < course.old.log.plan.queries }
+    ensures abreast { OnOk result (IsAbreast course.new) }
+    ensures names { OnOk result (course.new.names ≡ course.old.names) }
+    ensures log { OnOk result (course.new.log ≡ record course.old.log {
+      history = course.old.log.history ++ Seal (seals course.old.log.history) ∷ [];
+    }) }
+    ensures text { OnOk result (text.new.items ≡ text.old.items ++ text_of_lines
+        (block_lines course.old.names (course.old.log.history
+        ++ Seal (seals course.old.log.history) ∷ []) (seals course.old.log.history))) }
     ensures parts { steps.new.out ≡ steps.old.out }
 {
-    let publication = course.reviser.revise(rt, &OneByOne, steps)?;
-    put_block(&publication, text)?;
-    course.board.put(&publication)?;
-    Ok(())
+    let publication = take_seal(rt, course, steps)?;
+    put_block(&publication, text)
 }
 
 // Adds the answer to a question.
@@ -206,11 +273,47 @@ pub fn put_command<R: Threads + Sync>(
             event,
             at,
         } => put_feed(course, feeder, act, event, at, text),
-        Command::Seal => {
-            seal(course);
-            publish(rt, course, steps, text)
-        }
+        Command::Seal => put_seal(rt, course, steps, text),
         Command::Ask(query) => put_ask(course, &query, text),
         Command::Wait { .. } | Command::After { .. } => Ok(()),
+    }
+}
+
+/// Takes a command as `put_command` does, and adds nothing to a text.
+pub fn take_command<R: Threads + Sync>(
+    rt: &R,
+    course: &mut Course,
+    steps: &mut Steps<Brand>,
+    command: Command,
+) -> Result<(), OutOfMemory>
+    requires sound { IsSound course.old.names }
+    requires abreast { IsAbreast course.old }
+    requires of_program { IsOfProgram course.old.names command }
+    requires place { HasPlace course.old.log command }
+    ensures abreast { OnOk result (IsAbreast course.new) }
+    ensures names { OnOk result (course.new.names ≡ course.old.names) }
+    ensures log { OnOk result (course.new.log ≡ record course.old.log {
+      history = course.old.log.history
+          ++ entries_of course.old.names.plan course.old.log.history command;
+    }) }
+    ensures parts { steps.new.out ≡ steps.old.out }
+{
+    // (what is published stays right as the history grows)
+    published_stays();
+    match command {
+        Command::Feed {
+            feeder,
+            act,
+            event,
+            at,
+        } => {
+            let _entry = admit(course, feeder, act, event, at);
+            Ok(())
+        }
+        Command::Seal => {
+            let _publication = take_seal(rt, course, steps)?;
+            Ok(())
+        }
+        Command::Ask(_) | Command::Wait { .. } | Command::After { .. } => Ok(()),
     }
 }

@@ -1,11 +1,12 @@
 //! `rtec`, a recogniser of composite activities over streams of events, after the Run-Time Event
-//! Calculus. Its promise is the contract of `run`: what is written is the report of a script under
-//! a description, or the ground text of a description, and each other status but want of memory
-//! names its cause. Words, inputs and the course of a run are private parts. `main`
+//! Calculus. Its promise is the contract of `run`: what is written is the report of a script or of
+//! a made workload under a description, or the ground text of a description, and each other status
+//! but want of memory names its cause. Inputs and the course of a run are private parts. `main`
 //! calls `run` with the real inputs, the real standard output and a gate that holds nobody. It
 //! stands on nearly all other crates.
 #![tactic(auto)]
 
+mod commanded;
 mod course;
 mod inputs;
 mod job;
@@ -14,7 +15,7 @@ mod reads;
 mod report;
 mod run;
 mod script;
-mod words;
+mod simulate;
 mod writes;
 
 use crate::run::run;

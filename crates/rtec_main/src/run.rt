@@ -1,15 +1,17 @@
 // The top call.
-ghost use Rattle.std.specs.Prelude.{◌≡◌, ◌≤◌, ℕ, List, Some};
-ghost use Rattle.rtec_main.specs.Run.{Recognise, Ground, Means, MeansOfWords, Completes, task_of};
-ghost use Rattle.rtec_main.specs.Tasks.{world_of, Answers, ConcludesAny};
+ghost use Rattle.std.specs.Prelude.{◌≡◌, ◌≤◌, ℕ, List, Some, option_map};
+ghost use Rattle.command_words.specs.Words.{Recognise, Ground, plain_task, task_of};
+ghost use Rattle.rtec_main.specs.Run.{Means, MeansOfWords, Completes};
+ghost use Rattle.rtec_main.specs.Tasks.{world_of, IsSized, Answers, ConcludesAny};
 
 use crate::inputs::read_description;
-use crate::job::read_job;
+use crate::job::{Job, read_job};
 use crate::report::write_report;
-use crate::words::{Task, task_of};
+use crate::simulate::simulate;
 use crate::writes::write_all;
+use command_words::{Task, task_of, texts_of};
 use ground_text::ground_text;
-use rt_base::{Failed, Gate, Inputs, Sink, Word};
+use rt_base::{Failed, Gate, Inputs, OutOfMemory, Sink, Word};
 use run_status::Status;
 use std::alloc::Global;
 use std::thread::Threads;
@@ -45,18 +47,18 @@ fn recognise<R: Threads + Sync, I: Inputs, K: Sink>(
     inputs: &mut I,
     out: &mut K,
 ) -> Status
-    ensures means { Means
+    ensures means { (workers : ℕ) → Means
         (world_of (I.bytes inputs.old) (I.faults inputs.old) (K.taken out.old)
         (K.faults out.old))
         (world_of (I.bytes inputs.new) (I.faults inputs.new) (K.taken out.new)
         (K.faults out.new))
-        (Recognise description.now script.now) result }
-    ensures complete { Completes
+        (Recognise description.now script.now workers) result }
+    ensures complete { (workers : ℕ) → Completes
         (world_of (I.bytes inputs.old) (I.faults inputs.old) (K.taken out.old)
         (K.faults out.old))
         (world_of (I.bytes inputs.new) (I.faults inputs.new) (K.taken out.new)
         (K.faults out.new))
-        (Some (Recognise description.now script.now)) result }
+        (Some (Recognise description.now script.now workers)) result }
     ensures same { (name : List ℕ) → I.bytes inputs.new name ≡ I.bytes inputs.old name }
     ensures later { (name : List ℕ) → I.faults inputs.old name ≤ I.faults inputs.new name }
     ensures later_writes { K.faults out.old ≤ K.faults out.new }
@@ -65,7 +67,9 @@ fn recognise<R: Threads + Sync, I: Inputs, K: Sink>(
         Ok(job) => job,
         Err(status) => return status,
     };
-    match write_report(rt, alloc, job.program, &job.script, out) {
+    let Job { program, script } = job;
+    let commands = script.commands.as_slice();
+    match write_report(rt, alloc, program, commands, script.ignored, true, out) {
         Ok(()) => Status::Done,
         Err(unwritten) => Status::from(unwritten),
     }
@@ -104,20 +108,69 @@ fn ground<I: Inputs, K: Sink>(
     }
 }
 
-/// Does what the words say, over these inputs and this sink. It passes its gate at no place yet.
+// Does what is asked for, which by `live` is nothing yet.
+fn perform<R: Threads + Sync, I: Inputs, K: Sink>(
+    rt: &R,
+    alloc: Global,
+    asked: Option<Task>,
+    inputs: &mut I,
+    out: &mut K,
+) -> Status
+    requires sized { IsSized (option_map plain_task asked) }
+    ensures status { MeansOfWords
+        (world_of (I.bytes inputs.old) (I.faults inputs.old) (K.taken out.old)
+        (K.faults out.old))
+        (world_of (I.bytes inputs.new) (I.faults inputs.new) (K.taken out.new)
+        (K.faults out.new))
+        (option_map plain_task asked.entry) result }
+    ensures complete { Completes
+        (world_of (I.bytes inputs.old) (I.faults inputs.old) (K.taken out.old)
+        (K.faults out.old))
+        (world_of (I.bytes inputs.new) (I.faults inputs.new) (K.taken out.new)
+        (K.faults out.new))
+        (option_map plain_task asked.entry) result }
+    ensures same { (name : List ℕ) → I.bytes inputs.new name ≡ I.bytes inputs.old name }
+    ensures later { (name : List ℕ) → I.faults inputs.old name ≤ I.faults inputs.new name }
+    ensures later_writes { K.faults out.old ≤ K.faults out.new }
+{
+    let Some(task) = asked else {
+        return Status::BadWords;
+    };
+    match task {
+        Task::Recognise {
+            description,
+            script,
+            workers: _,
+        } => recognise(rt, alloc, description, script, inputs, out),
+        Task::Ground { description } => ground(alloc, description, inputs, out),
+        Task::Simulate {
+            description,
+            seed,
+            size,
+            workers: _,
+            is_full,
+        } => simulate(rt, alloc, description, seed, size, is_full, inputs, out),
+        Task::Live { .. } => Status::BadWords,
+    }
+}
+
+/// Does what the words say, over these inputs and this sink. It passes its gate at no place yet,
+/// and `recognise` and `simulate` ask for workers that change nothing yet.
 ///
-/// BadWords comes exactly where the words are neither `recognise` and two file names nor `ground`
-/// and one. Otherwise `status` says what each status means, as far as inputs and sink tell their
-/// bytes. Done: the sink has its old bytes and the report, or the ground text. BadDescription:
-/// reading the description's statements, checking them or ordering them in layers refuses, with the
-/// fault. TooLarge: a counted quantity exceeds its limit, with the first that does: the bytes of
-/// the description, then units, events, assignments, rules, conditions and cells, then the bytes
-/// and the records of the script, then its seals and its occurrences. BadScript: a record has no
-/// form, with the first. ReadFault and WriteFault: the count of faults rose in this call. Each comes only where what is tested before it passed: the description before
-/// the script, and of each its faults of reading, its length, its content. All but Done, WriteFault
-/// and want of memory write nothing. The report is written as it is made, so after WriteFault and
-/// want of memory the sink has a beginning of it. Want of memory alone has no cause. `complete`
-/// says it the other way round: what the status is where nothing failed.
+/// BadWords comes exactly where the words are of no command, or of `live`. Otherwise `status` says
+/// what each status means, as far as inputs and sink tell their bytes. Done: the sink has its old
+/// bytes and the report of a script, a ground text, or the report of a workload or its last three
+/// lines. BadDescription: reading the description's statements, checking them or ordering them in
+/// layers refuses, with the fault. TooLarge: a counted quantity exceeds its limit, with the first
+/// that does: the bytes of the description, then units, events, assignments, rules, conditions and
+/// cells, then the bytes and the records of the script, then its seals and its occurrences, or
+/// those of the size of a workload. BadScript: a record has no form, with the first. ReadFault and
+/// WriteFault: the count of faults rose in this call. Each comes only where what is tested before
+/// it passed: the description before the script or the size, and of each file its faults of
+/// reading, its length, its content. All but Done, WriteFault and want of memory write nothing. A
+/// report is written as it is made, so after WriteFault and want of memory the sink has a beginning
+/// of it. Want of memory alone has no cause. `complete` says it the other way round: what the
+/// status is where nothing failed.
 pub fn run<R: Threads + Sync, I: Inputs, K: Sink, G: Gate>(
     rt: &R,
     alloc: Global,
@@ -158,15 +211,13 @@ pub fn run<R: Threads + Sync, I: Inputs, K: Sink, G: Gate>(
     ensures later { (name : List ℕ) → I.faults inputs.old name ≤ I.faults inputs.new name }
     ensures later_writes { K.faults out.old ≤ K.faults out.new }
 {
-    let Some(task) = task_of(words) else {
-        return Status::BadWords;
+    let words = match texts_of(alloc, words) {
+        Ok(words) => words,
+        Err(OutOfMemory) => return Status::OutOfMemory,
     };
-    match task {
-        Task::Recognise {
-            description,
-            script,
-        } => recognise(rt, alloc, description, script, inputs, out),
-        Task::Ground { description } => ground(alloc, description, inputs, out),
+    match task_of(alloc, words.as_slice()) {
+        Ok(asked) => perform(rt, alloc, asked, inputs, out),
+        Err(OutOfMemory) => Status::OutOfMemory,
     }
 }
 

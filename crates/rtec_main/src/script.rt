@@ -1,13 +1,16 @@
 // The script: it is read to its end, and it runs or is refused by one answer.
-ghost use Rattle.std.specs.Prelude.{◌≡◌, ◌<◌, ◌≤◌, ◌^◌, ℕ, List, length, OnOk, IfOk, IfErr, IfSome};
+ghost use Rattle.std.specs.Prelude.{◌≡◌, ◌<◌, ◌≤◌, ◌^◌, ℕ, List, length, map, OnOk, IfOk, IfErr};
+ghost use Rattle.std.specs.Prelude.{IfSome};
 ghost use Rattle.ground_types.specs.Sound.{IsSound};
 ghost use Rattle.ground_types.specs.Windows.{IsSoundPlan};
-ghost use Rattle.rtec_main.specs.Script.{commands_of, is_seal, is_feed, seal_count};
-ghost use Rattle.rtec_main.specs.Script.{feed_count, entry_count, windows_of_event, exceeds_seals};
-ghost use Rattle.rtec_main.specs.Script.{exceeds_occurrences, DoRun, IsScriptOf};
+ghost use Rattle.workload_draw.specs.Counts.{is_seal, is_feed, seal_count, feed_count};
+ghost use Rattle.rtec_main.specs.Script.{commands_of, entry_count, windows_of_event};
+ghost use Rattle.rtec_main.specs.Script.{exceeds_seals, are_too_many, exceeds_occurrences, DoRun};
+ghost use Rattle.rtec_main.specs.Script.{IsScriptOf};
 ghost use Rattle.rtec_main.specs.Reads.{DoNotRun, IsScriptRefused, IsWhyNoScript};
 ghost use Rattle.stream_read.specs.Scripts.{AreOfProgram};
 
+use crate::commanded::Commanded;
 use crate::reads::{Unread, read_all};
 use ground_types::{Command, Plan, Program};
 use rt_base::{Inputs, Limit};
@@ -99,37 +102,37 @@ impl From<ScriptRefused> for Status {
 }
 
 // Whether a command is a seal.
-fn is_seal(placed: &Placed) -> bool
-    ensures { result ≡ is_seal placed.now.command }
+fn is_seal<T: Commanded>(item: &T) -> bool
+    ensures { result ≡ is_seal (T.command_of item.now) }
 {
-    matches!(placed.command, Command::Seal)
+    matches!(item.command(), Command::Seal)
 }
 
 // Whether a command is an add or a revoke.
-fn is_feed(placed: &Placed) -> bool
-    ensures { result ≡ is_feed placed.now.command }
+fn is_feed<T: Commanded>(item: &T) -> bool
+    ensures { result ≡ is_feed (T.command_of item.now) }
 {
-    matches!(placed.command, Command::Feed { .. })
+    matches!(item.command(), Command::Feed { .. })
 }
 
 // How many of the commands are seals.
-fn seal_count(commands: &[Placed]) -> usize
-    ensures { result ≡ seal_count (commands_of commands.now) }
+fn seal_count<T: Commanded>(commands: &[T]) -> usize
+    ensures { result ≡ seal_count (map T.command_of commands.now) }
 {
-    commands.iter().filter(|placed| is_seal(placed)).count()
+    commands.iter().filter(|item| is_seal(*item)).count()
 }
 
 // How many of the commands are adds and revokes.
-fn feed_count(commands: &[Placed]) -> usize
-    ensures { result ≡ feed_count (commands_of commands.now) }
+fn feed_count<T: Commanded>(commands: &[T]) -> usize
+    ensures { result ≡ feed_count (map T.command_of commands.now) }
 {
-    commands.iter().filter(|placed| is_feed(placed)).count()
+    commands.iter().filter(|item| is_feed(*item)).count()
 }
 
 /// How many entries commands make: one for each add, revoke and seal.
-pub fn entry_count(commands: &[Placed]) -> u32
-    requires few { entry_count (commands_of commands.now) < 2 ^ 32 }
-    ensures { result ≡ entry_count (commands_of commands.now) }
+pub fn entry_count<T: Commanded>(commands: &[T]) -> u32
+    requires few { entry_count (map T.command_of commands.now) < 2 ^ 32 }
+    ensures { result ≡ entry_count (map T.command_of commands.now) }
 {
     (feed_count(commands) + seal_count(commands)) as u32
 }
@@ -149,12 +152,20 @@ fn exceeds_seals(plan: &Plan, commands: &[Placed]) -> bool
     seal_count(commands) > plan.queries as usize
 }
 
+/// Whether the events of so many adds and revokes may lie in a window too often.
+pub fn are_too_many(plan: &Plan, feeds: u64) -> bool
+    requires { IsSoundPlan plan.now }
+    ensures { result ≡ are_too_many plan.now feeds }
+{
+    feeds.saturating_mul(windows_of_event(plan)) > MOST_OCCURRENCES
+}
+
 // Whether the events of adds and revokes may lie in a window too often.
 fn exceeds_occurrences(plan: &Plan, commands: &[Placed]) -> bool
     requires { IsSoundPlan plan.now }
     ensures { result ≡ exceeds_occurrences plan.now (commands_of commands.now) }
 {
-    (feed_count(commands) as u64).saturating_mul(windows_of_event(plan)) > MOST_OCCURRENCES
+    are_too_many(plan, feed_count(commands) as u64)
 }
 
 // Whether the commands run, or which test they fail first.

@@ -14,6 +14,7 @@ mod histories;
 mod reports;
 mod rows;
 mod scripts;
+mod workloads;
 
 // A lamp that is switched up and down.
 const LAMP: &str = "window(10).\nstep(5).\nfrom(0).\ninput up.\ninput down.\nsimple on [true].\n\
@@ -153,6 +154,11 @@ fn of_changed_run(
 ) -> Result<String, Fail> {
     let script = changed(rt.alloc(), FIRST_RUN, from, to)?;
     recognised(rt, LAMP, script.as_str())
+}
+
+// The first line of a text.
+fn first_line(text: &str) -> &str {
+    text.split_once('\n').map_or(text, |parts| parts.0)
 }
 
 // A long text: the front, the piece for each number from 2 to the last one, with the number in

@@ -9,7 +9,7 @@ use Rattle.rtec_main.specs.Script.{commands_of, DoRun, IsScriptOf}
 use Rattle.rtec_main.specs.Reads.{IsWhyNoScript}
 use Rattle.rtec_main.specs.Tasks.{world_of}
 use Rattle.rtec_main.proofs.CountedPrograms.{counted_program_is}
-use Rattle.rtec_main.proofs.Scripts.{few_entries}
+use Rattle.rtec_main.proofs.Scripts.{few_entries, commands_are}
 use Rattle.rtec_main.proofs.Refusals.{script_refused_before, script_before}
 use Rattle.rtec_main.proofs.Running.{refused_script, report_given}
 use Rattle.rtec_main.proofs.Concluding.{refused_report_concludes, refused_script_concludes}
@@ -20,9 +20,9 @@ use Rattle.rtec_main.proofs.job.read_job.Goals as goal
 
 pub returns-in_err-described-clause-complete : goal.returns-in_err-described-clause-complete
 returns-in_err-described-clause-complete g c =
-    refused_report_concludes (g.I.Inputs.bytes c.args.inputs.now)
+    λ workers. refused_report_concludes (g.I.Inputs.bytes c.args.inputs.now)
     (g.I.Inputs.faults c.args.inputs.now) (g.I.Inputs.faults c.read_description.new.inputs)
-    c.args.description.now c.args.script.now c.in_err-described.field-0.0
+    c.args.description.now c.args.script.now workers c.in_err-described.field-0.0
     c.in_err-described.ensures.err c.from_residual.result (search (rules, c.from_residual.ensures))
 
 -- why there is no script, as inputs stood at first
@@ -43,18 +43,18 @@ no_script g c =
 
 pub returns-in_err-script-clause-answer : goal.returns-in_err-script-clause-answer
 returns-in_err-script-clause-answer g c =
-    refused_script (g.I.Inputs.bytes c.args.inputs.now) (g.I.Inputs.faults c.args.inputs.now)
-    (g.I.Inputs.faults c.read_script.new.inputs) c.args.description.now c.args.script.now
-    c.in_ok-described.described c.in_ok-described.ensures.sound c.in_ok-described.ensures.ok
-    c.in_err-script.field-0.0
+    λ workers. refused_script (g.I.Inputs.bytes c.args.inputs.now)
+    (g.I.Inputs.faults c.args.inputs.now) (g.I.Inputs.faults c.read_script.new.inputs)
+    c.args.description.now c.args.script.now workers c.in_ok-described.described
+    c.in_ok-described.ensures.sound c.in_ok-described.ensures.ok c.in_err-script.field-0.0
     (no_script g (goal.at.returns-in_err-script-clause-answer g c).In_err-script)
     c.from_residual-in_err-script.result (search (rules, c.from_residual-in_err-script.ensures))
 
 pub returns-in_err-script-clause-complete : goal.returns-in_err-script-clause-complete
 returns-in_err-script-clause-complete g c =
-    refused_script_concludes (g.I.Inputs.bytes c.args.inputs.now)
+    λ workers. refused_script_concludes (g.I.Inputs.bytes c.args.inputs.now)
     (g.I.Inputs.faults c.args.inputs.now) (g.I.Inputs.faults c.read_script.new.inputs)
-    c.args.description.now c.args.script.now c.in_ok-described.described
+    c.args.description.now c.args.script.now workers c.in_ok-described.described
     c.in_ok-described.ensures.sound c.in_ok-described.ensures.ok c.in_err-script.field-0.0
     (no_script g (goal.at.returns-in_err-script-clause-complete g c).In_err-script)
     c.from_residual-in_err-script.result (search (rules, c.from_residual-in_err-script.ensures))
@@ -75,6 +75,11 @@ returns-clause-counted g c =
     subst IsCounted (sym c.into_program-program.ensures)
     (counted_program_is c.in_ok-described.described c.in_ok-described.ensures.sound)
 
+pub returns-clause-of_program : goal.returns-clause-of_program
+returns-clause-of_program g c =
+    commands_are c.into_program-program.result c.in_ok-script.script.commands
+    c.in_ok-script.ensures.of_program
+
 -- and it runs
 runs : (g : Over) (c : In_ok-script g)
     → DoRun c.in_ok-described.described.program.plan (commands_of c.in_ok-script.script.commands)
@@ -93,7 +98,7 @@ returns-clause-few g c =
 
 pub returns-clause-answer : goal.returns-clause-answer
 returns-clause-answer g c =
-    λ taken writes.
+    λ workers taken writes.
     report_given (world_of (g.I.Inputs.bytes c.args.inputs.now)
     (g.I.Inputs.faults c.args.inputs.now) taken writes)
     c.args.description.now c.args.script.now c.in_ok-described.described
@@ -104,7 +109,8 @@ returns-clause-answer g c =
 
 pub returns-clause-complete : goal.returns-clause-complete
 returns-clause-complete g c =
-    report_concludes (g.I.Inputs.bytes c.args.inputs.now) (g.I.Inputs.faults c.args.inputs.now)
-    (g.I.Inputs.faults c.read_script.new.inputs) c.args.description.now c.args.script.now
+    λ workers. report_concludes (g.I.Inputs.bytes c.args.inputs.now)
+    (g.I.Inputs.faults c.args.inputs.now)
+    (g.I.Inputs.faults c.read_script.new.inputs) c.args.description.now c.args.script.now workers
     c.in_ok-described.described c.in_ok-described.ensures.sound c.in_ok-described.ensures.ok
     c.in_ok-script.script (given_script g c) (runs g c) c.in_ok-script.script

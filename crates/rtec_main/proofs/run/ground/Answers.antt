@@ -1,6 +1,6 @@
 use Rattle.std.proofs.Common.{ℕ, Vec, refl}
 use Rattle.std.specs.declared.alloc.Global.{Global}
-use Rattle.rtec_main.specs.Run.{Ground}
+use Rattle.command_words.specs.Words.{Ground}
 use Rattle.rtec_main.specs.Tasks.{world_of}
 use Rattle.rtec_main.proofs.Ending.{refused_means}
 use Rattle.rtec_main.proofs.run.ground.Goals as goal

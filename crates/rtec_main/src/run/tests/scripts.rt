@@ -1,5 +1,7 @@
 // Scripts that are refused, records that are ignored, and the bounds of descriptions and scripts.
-use super::{LAMP, Long, changed, of_changed_lamp, of_changed_run, recognised, written_out};
+use super::{
+    LAMP, Long, changed, first_line, of_changed_lamp, of_changed_run, recognised, written_out,
+};
 use std::alloc::Global;
 use std::test::Fail;
 use std::thread::Threads;
@@ -117,11 +119,6 @@ fn records_of_what_is_not_declared_are_counted(rt: HostRuntime) -> Result<(), Fa
         assert_eq!(rt; found.as_str(), wanted, "{script:?}");
     }
     Ok(())
-}
-
-// The first line of a text.
-fn first_line(text: &str) -> &str {
-    text.split_once('\n').map_or(text, |parts| parts.0)
 }
 
 // How the run of two long texts ends.
