@@ -1,7 +1,8 @@
 -- What the drawings of a workload have in common.
 use Rattle.std.proofs.Common.{◌≡◌, inl, inr, ℕ, zero, suc, ◌+◌, ◌*◌, ◌/◌, ◌%◌, ◌<◌, ◌≤◌, Bool}
 use Rattle.std.proofs.Common.{true, false, ◌==◌, ◌||◌, if◌then◌else◌, List, [], ◌∷◌, ◌++◌, filter}
-use Rattle.std.proofs.Common.{slice_get, Option, Some, None, refl, sym, ◌∙◌, ap, subst, arith, cond, lit<, ◌-◌, min, not, ◌&&◌, ◌≢◌, eqb}
+use Rattle.std.proofs.Common.{slice_get, Option, Some, None, refl, sym, ◌∙◌, ap, subst, arith, cond}
+use Rattle.std.proofs.Common.{lit<, ◌-◌, min, not, ◌&&◌, ◌≢◌, eqb}
 use Rattle.std.proofs.Math.Nat.{mul_comm, mod-lt}
 use Rattle.std.proofs.lemmas.Bool.Decides.{nat_tests, eqb_tells}
 use Rattle.std.proofs.lemmas.Bool.{eq-eqb, ne_eqb}
@@ -150,7 +151,8 @@ with_events : (program : Program) (m i : ℕ) (before : Drawing) (P : Drawing �
 with_events program m i before P none some =
     elim (eqb_tells program.events 0) [
       | inl is ↦
-          subst (λ (b : Bool). P (if b then before else with_feed program m i before)) (sym is.0) none
+          subst (λ (b : Bool). P (if b then before else with_feed program m i before))
+          (sym is.0) none
       | inr is ↦
           subst (λ (b : Bool). P (if b then before else with_feed program m i before)) (sym is.0)
           (some (let ne : program.events ≢ 0 = is.1 in omega arith))

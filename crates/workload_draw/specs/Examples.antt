@@ -48,8 +48,8 @@ of_two_queries : workload_of (two_inputs (ten_by_five_of 2)) 11 5 ≡ Feed 8 Add
 of_two_queries = refl
 
 -- what a revoke names is revoked again
-of_one_query : workload_of (two_inputs (ten_by_five_of 1)) 113 4 ≡ Feed 5 Add 0 0 ∷ Feed 6 Revoke 0 0
-    ∷ Feed 5 Add 1 0 ∷ Feed 6 Revoke 0 0 ∷ Seal ∷ []
+of_one_query : workload_of (two_inputs (ten_by_five_of 1)) 113 4 ≡ Feed 5 Add 0 0
+    ∷ Feed 6 Revoke 0 0 ∷ Feed 5 Add 1 0 ∷ Feed 6 Revoke 0 0 ∷ Seal ∷ []
 of_one_query = refl
 
 -- the greatest seed
