@@ -1,0 +1,4 @@
+pub mod Counts
+pub mod Workload
+pub mod Spaced
+pub mod Examples
