@@ -1,5 +1,6 @@
 -- For private functions alone: a sample program; and evidence that the definitions say what is
--- meant: small workloads, beside those of another program. Each equation holds by computation alone.
+-- meant: small workloads, beside those of another program. Each equation holds by computation
+-- alone.
 use Rattle.std.specs.Prelude.{◌≡◌, ℕ, ◌+◌, List, [], ◌∷◌, drop, codes, refl}
 use Rattle.ground_types.specs.Examples.{lamp}
 use Rattle.ground_types.specs.declared.entries.Act.TheVariants.{Add, Revoke}

@@ -25,7 +25,8 @@ abbrev pub per_seal : Plan → ℕ → ℕ
 per_seal plan size = div_ceil size plan.queries
 
 -- The point of an add that is drawn for query k, in state x: one of the points after w_k - step and
--- up to w_k + window, so some lie at or before the left border. A difference of natural numbers is 0 where it would be below 0.
+-- up to w_k + window, so some lie at or before the left border. A difference of natural numbers is
+-- 0 where it would be below 0.
 abbrev pub point_drawn : Plan → ℕ → ℕ → ℕ
 point_drawn plan k x = left plan k + 1 + drawn (plan.window + plan.step) x - plan.step
 
@@ -44,8 +45,8 @@ abbrev pub revoked : ℕ → Option Command → Command
 revoked feeder (Some (Feed other act event at)) = Feed feeder Revoke event at
 revoked feeder other = Feed feeder Revoke 0 0
 
--- the revoke of what one of the adds and revokes before command i names: it is drawn in state x from
--- the 64 nearest, or from all where they are fewer
+-- the revoke of what one of the adds and revokes before command i names: it is drawn in state x
+-- from the 64 nearest, or from all where they are fewer
 abbrev pub revoked_before : ℕ → ℕ → List Command → ℕ → Command
 revoked_before feeder i before x = revoked feeder (feed_at before (i - 1 - drawn (min i 64) x))
 
