@@ -16,7 +16,7 @@ use Rattle.std.proofs.lemmas.List.{length-map, length-drop, take-map, drop-map}
 use Rattle.std.proofs.lemmas.List.Folds.{list_all-map}
 use Rattle.clap.specs.declared.parser.matches.ArgMatches.{ArgMatches}
 use Rattle.command_words.specs.Words.{Text, Given, texts, AreTexts, asked, given_by, task_of}
-use Rattle.command_words.specs.Words.{is_file, recognise, ground_text, simulate, live, workers_of}
+use Rattle.command_words.specs.Words.{is_file, recognise, grounding, simulate, live, workers_of}
 use Rattle.command_words.specs.Words.{feeders_of}
 use Rattle.command_words.specs.Words.{live_files, recognise_files, simulate_places, are_live, Live}
 use Rattle.command_words.specs.Matching.{Holds, AreMatches, IsDoubtful, has_dash, is_dashed}
@@ -56,7 +56,7 @@ no_recognise places (Some w) None false doubt = elim (cases_Bool (is_dashed w)) 
 
 no_ground : (places : List Text) (workers feeders : Option Text) (full : Bool)
     → (has_dash workers || has_dash feeders) ≡ true
-    → None ≡ ground_text (record {
+    → None ≡ grounding (record {
       places = places;
       workers = workers;
       feeders = feeders;

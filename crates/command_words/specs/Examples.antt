@@ -74,5 +74,17 @@ live_scripts : asked (codes "live d c f --feeders 1 r")
     ≡ Some (Live (codes "d") (codes "c") (codes "f" ∷ []) (codes "r" ∷ []) 1)
 live_scripts = refl
 
+feeders_are_one_digit : asked (codes "live d c f --feeders 01") ≡ None
+feeders_are_one_digit = refl
+
+no_workers : asked (codes "recognise a b --workers 0") ≡ None
+no_workers = refl
+
+full_twice : asked (codes "simulate d 7 10 --full --full") ≡ None
+full_twice = refl
+
+nothing_to_do : asked (codes "simulate d 7 0") ≡ None
+nothing_to_do = refl
+
 feeders_are_required : asked (codes "live d c f") ≡ None
 feeders_are_required = refl

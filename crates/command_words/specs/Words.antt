@@ -43,8 +43,8 @@ pub data Valued : Type 0 where
 
 -- an option is given once at most
 abbrev pub once : Option Text → Text → (Option Text → Given) → Option Given
-once None value given = Some (given (Some value))
-once (Some before) value given = None
+once None value with = Some (with (Some value))
+once (Some before) value with = None
 
 abbrev pub with_value : Valued → Text → Given → Option Given
 with_value Workers value given = once given.workers value (λ v. record given { workers = v })
@@ -68,10 +68,10 @@ pub data Shape : Type 0 where
   Long : Text → Option Text → Shape
   -- another word that begins with `-` and has a further byte
   Dashed : Shape
-  -- a word of its own
+  -- any other word, also the empty one and `-`
   Plain : Shape
 
--- a name of an option stands before the first `=` (61), and a value behind it
+-- the name of an option stands before the first `=` (61), and a value after it
 abbrev pub long_shape : Text → Shape
 long_shape [] = Ends
 long_shape (c ∷ rest) = Long (before_first (λ x. x == 61) (c ∷ rest))
@@ -230,13 +230,13 @@ live_files (description ∷ clock ∷ scripts) feeders workers =
     else None
 live_files places feeders workers = None
 
--- the options that a command has not are not given
+-- options that the command does not have are refused
 abbrev pub recognise : Given → Option Task
 recognise given = if is_some given.feeders || given.is_full then None
     else option_and_then (recognise_files given.places) (workers_of given.workers)
 
-abbrev pub ground_text : Given → Option Task
-ground_text given = if is_some given.workers || is_some given.feeders || given.is_full then None
+abbrev pub grounding : Given → Option Task
+grounding given = if is_some given.workers || is_some given.feeders || given.is_full then None
     else ground_files given.places
 
 abbrev pub simulate : Given → Option Task
@@ -252,7 +252,7 @@ live given = if given.is_full then None
 -- what a command word asks for with what is given
 abbrev pub asked : Text → Given → Option Task
 asked command given = if bytes_eq command (codes "recognise") then recognise given
-    else if bytes_eq command (codes "ground") then ground_text given
+    else if bytes_eq command (codes "ground") then grounding given
     else if bytes_eq command (codes "simulate") then simulate given
     else if bytes_eq command (codes "live") then live given
     else None

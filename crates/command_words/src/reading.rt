@@ -1,7 +1,7 @@
 // What the words of a command ask for.
 ghost use Rattle.std.specs.Prelude.{◌≡◌, ◌≤◌, ◌∷◌, [], IfOk, option_map};
 ghost use Rattle.std.specs.List.{list_all};
-ghost use Rattle.command_words.specs.Words.{texts, AreTexts, asked, is_file, ground_text, live};
+ghost use Rattle.command_words.specs.Words.{texts, AreTexts, asked, is_file, grounding, live};
 ghost use Rattle.command_words.specs.Words.{live_files};
 ghost use Rattle.command_words.specs.Words.{plain_task, recognise, recognise_files, simulate};
 ghost use Rattle.command_words.specs.Words.{simulate_places, task_of};
@@ -44,7 +44,7 @@ fn recognise<'a>(given: Given<'_, 'a>) -> Option<Task<'a>>
 
 // `DESC`.
 fn ground<'a>(given: Given<'_, 'a>) -> Option<Task<'a>>
-    ensures { option_map plain_task result ≡ ground_text (plain_given given.entry) }
+    ensures { option_map plain_task result ≡ grounding (plain_given given.entry) }
 {
     if given.workers.is_some() || given.feeders.is_some() || given.is_full {
         return None;
@@ -184,11 +184,14 @@ fn asked<'a>(
     }
 }
 
-/// The task of the words, if they are of a form. The first is the command word: `recognise` with
-/// two files, `ground` with one, `simulate` with a file, a seed and a size, or `live` with a file,
-/// a clock's script, and those of feeders and readers. Options may stand at any place behind it:
-/// `--workers N` (1 to 16), `--feeders N` (1 to 8) and `--full`, each where the command has it. It
-/// answers None where the words are of no form, and want of memory. Our own.
+/// The task of the words, or None exactly where they are of no form; the one error is want of
+/// memory. The first is the command word: `recognise DESC SCRIPT [--workers N]`, `ground DESC`,
+/// `simulate DESC SEED SIZE [--workers N] [--full]`, or `live DESC CLOCK`, then the scripts of the
+/// feeders and of at most eight readers, with `--feeders N` (required) and `[--workers N]`. Options
+/// may stand at any place after it and before a word `--`, each once, with the value in the next
+/// word or after a `=`. Files are not empty; there are 1 to 16 workers (one or two digits, 1 where
+/// none are given) and 1 to 8 feeders (one digit), a seed has 1 to 20 digits and fits 64 bits, and
+/// a size is 1 to 2,097,152, of at most seven digits. Our own.
 pub fn task_of<'a>(alloc: Global, words: &'a [&'a str]) -> Result<Option<Task<'a>>, OutOfMemory>
     requires { AreTexts (texts words.now) }
     ensures { IfOk result (λ task. option_map plain_task task ≡ task_of (texts words.now)) }
@@ -212,7 +215,7 @@ fn text_of(word: &Word) -> &str
     text
 }
 
-/// The words as texts, which they lend.
+/// The words as texts, which they lend. The one error is want of memory.
 pub fn texts_of(alloc: Global, words: &[Word]) -> Result<Vec<&str>, OutOfMemory>
     ensures is { IfOk result (λ lent. texts lent.items ≡ words.now) }
     ensures texts { IfOk result (λ lent. AreTexts (texts lent.items)) }

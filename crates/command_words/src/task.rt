@@ -20,14 +20,14 @@ pub enum Task<'a> {
         description: &'a str,
         /// Where the generator begins.
         seed: u64,
-        /// How many adds and revokes there are, 1 to 2,097,152.
+        /// How many adds and revokes are asked for, 1 to 2,097,152.
         size: u32,
         /// How many workers there are, 1 to 16.
         workers: u8,
         /// Whether the report is wanted whole.
         is_full: bool,
     },
-    /// The scripts of a clock, of feeders and of readers under an event description, side by side.
+    /// The scripts of a clock, of feeders and of readers under an event description, concurrently.
     Live {
         description: &'a str,
         clock: &'a str,

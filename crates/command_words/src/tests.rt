@@ -4,6 +4,16 @@ use rt_base::Word;
 use std::alloc::Global;
 use std::test::Fail;
 
+// Words with a comma behind each.
+fn joined(alloc: Global, words: &[&str]) -> Result<String, Fail> {
+    let mut text = String::new(alloc);
+    for word in words {
+        text.push_str(word)?;
+        text.push_str(",")?;
+    }
+    Ok(text)
+}
+
 // What a task asks for, in words.
 fn shown(alloc: Global, task: &Task) -> Result<String, Fail> {
     let text = match task {
@@ -27,9 +37,9 @@ fn shown(alloc: Global, task: &Task) -> Result<String, Fail> {
             readers,
             workers,
         } => {
-            let feeders = feeders.as_slice().len();
-            let readers = readers.as_slice().len();
-            format!(in alloc; "live {description} {clock} {feeders} {readers} {workers}")
+            let feeders = joined(alloc, feeders.as_slice())?;
+            let readers = joined(alloc, readers.as_slice())?;
+            format!(in alloc; "live {description} {clock} [{feeders}] [{readers}] {workers}")
         }
     };
     Ok(text?)
@@ -69,6 +79,10 @@ recognise a b --workers= => nothing
 recognise a b --work 2 => nothing
 recognise a b --workers 1 --workers 1 => nothing
 recognise a b --workers -- 2 => nothing
+recognise a b --=x => nothing
+recognise -- a b --workers 2 => nothing
+recognise -- -- b => recognise -- b 1
+recognise a b --feeders 1 => nothing
 recognise a -b => nothing
 recognise a b --full => nothing
 recognise '' b => nothing
@@ -78,6 +92,7 @@ ground a => ground a
 ground -- --help => ground --help
 ground --help => nothing
 ground a --workers 1 => nothing
+ground a --full => nothing
 --help => nothing
 help => nothing
 '' => nothing
@@ -92,12 +107,25 @@ simulate d 7 2097153 => nothing
 simulate d 7 00000001 => nothing
 simulate d 7 10 --full=1 => nothing
 simulate d 7 10 --full --full => nothing
-live d c --feeders 1 f r1 r2 => live d c 1 2 1
-live d c f1 f2 --workers 4 --feeders=2 => live d c 2 0 4
+simulate d 7 10 --feeders 1 => nothing
+live d c --feeders 1 f r1 r2 => live d c [f,] [r1,r2,] 1
+live d c f1 f2 --workers 4 --feeders=2 => live d c [f1,f2,] [] 4
+live d c --feeders 1 f 1 2 3 4 5 6 7 8 => live d c [f,] [1,2,3,4,5,6,7,8,] 1
+live d c --feeders 8 1 2 3 4 5 6 7 8 => live d c [1,2,3,4,5,6,7,8,] [] 1
+live d c f --feeders 01 => nothing
+live d c f --feeders 0 => nothing
+live d c f --feeders 1 --full => nothing
+live d '' f --feeders 1 => nothing
 live d c f => nothing
 live d c f --feeders 2 => nothing
 live d c f --feeders 9 => nothing
 live d c --feeders 1 f 1 2 3 4 5 6 7 8 9 => nothing";
+
+#[test]
+fn no_words_ask_for_nothing(rt: HostRuntime) -> Result<(), Fail> {
+    assert!(rt; task_of(rt.alloc(), &[])?.is_none());
+    Ok(())
+}
 
 #[test]
 fn words_ask_for_tasks(rt: HostRuntime) -> Result<(), Fail> {

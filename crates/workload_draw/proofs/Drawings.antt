@@ -1,7 +1,8 @@
 -- What the drawings of a workload have in common.
 use Rattle.std.proofs.Common.{◌≡◌, inl, inr, ℕ, zero, suc, ◌+◌, ◌*◌, ◌/◌, ◌%◌, ◌<◌, ◌≤◌, Bool}
 use Rattle.std.proofs.Common.{true, false, ◌==◌, ◌||◌, if◌then◌else◌, List, [], ◌∷◌, ◌++◌, filter}
-use Rattle.std.proofs.Common.{slice_get, Option, Some, None, refl, sym, ◌∙◌, ap, subst, arith, cond, lit<, ◌-◌, min, not, ◌&&◌, ◌≢◌, eqb}
+use Rattle.std.proofs.Common.{slice_get, Option, Some, None, refl, sym, ◌∙◌, ap, subst, arith, cond}
+use Rattle.std.proofs.Common.{lit<, ◌-◌, min, not, ◌&&◌, ◌≢◌, eqb}
 use Rattle.std.proofs.Math.Nat.{mul_comm, mod-lt}
 use Rattle.std.proofs.lemmas.Bool.Decides.{nat_tests, eqb_tells}
 use Rattle.std.proofs.lemmas.Bool.{eq-eqb, ne_eqb}
@@ -16,7 +17,7 @@ use Rattle.workload_draw.specs.Counts.{is_feed, is_seal, feed_count, seal_count}
 use Rattle.workload_draw.specs.Spaced.{AreSpaced}
 use Rattle.workload_draw.specs.Workload.{Drawing, next_state, drawn, added, revoked, feed_at}
 use Rattle.workload_draw.specs.Workload.{revoked_before, with_feed, with_seal, with_round, per_seal}
-use Rattle.workload_draw.specs.Workload.{drawing, workload_of, IsTold, AreTold}
+use Rattle.workload_draw.specs.Workload.{drawing, workload_of, IsMade, AreMade}
 use Rattle.workload_draw.proofs.Spacing.{spaced_none, spaced_feed, spaced_seal, turns}
 
 -- ---- how many a seal follows
@@ -46,42 +47,42 @@ in_window plan size i some low =
     div_below i (per_seal plan size) plan.queries
     (per_seal_some plan size some (omega arith)) (omega arith)
 
--- ---- what is told
+-- ---- what is made
 
-told_push : (program : Program) (xs : List Command) (x : Command) → AreTold program xs
-    → IsTold program x → AreTold program (xs ++ x ∷ [])
-told_push program [] x all last = (last, tt)
-told_push program (y ∷ ys) x all last = (all.0, told_push program ys x all.1 last)
+made_push : (program : Program) (xs : List Command) (x : Command) → AreMade program xs
+    → IsMade program x → AreMade program (xs ++ x ∷ [])
+made_push program [] x all last = (last, tt)
+made_push program (y ∷ ys) x all last = (all.0, made_push program ys x all.1 last)
 
--- the command is told, where there is one
-abbrev IsToldOrNone : Program → Option Command → Type 0
-IsToldOrNone program None = Unit {0}
-IsToldOrNone program (Some command) = IsTold program command
+-- the command is made, where there is one
+abbrev IsMadeOrNone : Program → Option Command → Type 0
+IsMadeOrNone program None = Unit {0}
+IsMadeOrNone program (Some command) = IsMade program command
 
-told_feeds : (program : Program) (xs : List Command) → AreTold program xs
-    → AreTold program (filter is_feed xs)
-told_feeds program [] all = tt
-told_feeds program (Feed feeder act event at ∷ xs) all = (all.0, told_feeds program xs all.1)
-told_feeds program (Seal ∷ xs) all = told_feeds program xs all.1
-told_feeds program (Ask query ∷ xs) all = told_feeds program xs all.1
-told_feeds program (Wait count ∷ xs) all = told_feeds program xs all.1
-told_feeds program (After feeder count ∷ xs) all = told_feeds program xs all.1
+made_feeds : (program : Program) (xs : List Command) → AreMade program xs
+    → AreMade program (filter is_feed xs)
+made_feeds program [] all = tt
+made_feeds program (Feed feeder act event at ∷ xs) all = (all.0, made_feeds program xs all.1)
+made_feeds program (Seal ∷ xs) all = made_feeds program xs all.1
+made_feeds program (Ask query ∷ xs) all = made_feeds program xs all.1
+made_feeds program (Wait count ∷ xs) all = made_feeds program xs all.1
+made_feeds program (After feeder count ∷ xs) all = made_feeds program xs all.1
 
-told_at : (program : Program) (xs : List Command) (j : ℕ) → AreTold program xs
-    → IsToldOrNone program (slice_get xs j)
-told_at program [] j all = tt
-told_at program (x ∷ xs) zero all = all.0
-told_at program (x ∷ xs) (suc j) all = told_at program xs j all.1
+made_at : (program : Program) (xs : List Command) (j : ℕ) → AreMade program xs
+    → IsMadeOrNone program (slice_get xs j)
+made_at program [] j all = tt
+made_at program (x ∷ xs) zero all = all.0
+made_at program (x ∷ xs) (suc j) all = made_at program xs j all.1
 
-told_revoked : (program : Program) (feeder : ℕ) (named : Option Command) → 1 ≤ feeder → feeder ≤ 8
-    → 0 < program.events → IsToldOrNone program named → IsTold program (revoked feeder named)
-told_revoked program feeder None low high some named = (low, high, some)
-told_revoked program feeder (Some (Feed other act event at)) low high some named =
+made_revoked : (program : Program) (feeder : ℕ) (named : Option Command) → 1 ≤ feeder → feeder ≤ 8
+    → 0 < program.events → IsMadeOrNone program named → IsMade program (revoked feeder named)
+made_revoked program feeder None low high some named = (low, high, some)
+made_revoked program feeder (Some (Feed other act event at)) low high some named =
     (low, high, named.2)
-told_revoked program feeder (Some Seal) low high some named = (low, high, some)
-told_revoked program feeder (Some (Ask query)) low high some named = absurd named
-told_revoked program feeder (Some (Wait count)) low high some named = absurd named
-told_revoked program feeder (Some (After other count)) low high some named = absurd named
+made_revoked program feeder (Some Seal) low high some named = (low, high, some)
+made_revoked program feeder (Some (Ask query)) low high some named = absurd named
+made_revoked program feeder (Some (Wait count)) low high some named = absurd named
+made_revoked program feeder (Some (After other count)) low high some named = absurd named
 
 feeds_revoked : (feeder : ℕ) (named : Option Command) → is_feed (revoked feeder named) ≡ true
 feeds_revoked feeder None = refl
@@ -100,7 +101,7 @@ drawn_feeder x = let low : drawn 8 x < 8 = mod-lt (next_state x / 2048) (lit< tt
 record AddsFeed (program : Program) (before after : List Command) : Type 0 where
   feed : Command
   is : is_feed feed ≡ true
-  told : AreTold program before → IsTold program feed
+  told : AreMade program before → IsMade program feed
   list : after ≡ before ++ feed ∷ []
 
 added_feed : (program : Program) (before : List Command) (x y : Drawing) (b : Bool)
@@ -131,9 +132,9 @@ adds_feed program m i before some =
     (record {
       feed = revoked feeder named;
       is = feeds_revoked feeder named;
-      told = λ all. told_revoked program feeder named low high some
-          (told_at program (filter is_feed before.commands) (i - 1 - drawn (min i 64) next)
-          (told_feeds program before.commands all));
+      told = λ all. made_revoked program feeder named low high some
+          (made_at program (filter is_feed before.commands) (i - 1 - drawn (min i 64) next)
+          (made_feeds program before.commands all));
       list = refl;
     })
     (record {
@@ -150,7 +151,8 @@ with_events : (program : Program) (m i : ℕ) (before : Drawing) (P : Drawing �
 with_events program m i before P none some =
     elim (eqb_tells program.events 0) [
       | inl is ↦
-          subst (λ (b : Bool). P (if b then before else with_feed program m i before)) (sym is.0) none
+          subst (λ (b : Bool). P (if b then before else with_feed program m i before))
+          (sym is.0) none
       | inr is ↦
           subst (λ (b : Bool). P (if b then before else with_feed program m i before)) (sym is.0)
           (some (let ne : program.events ≢ 0 = is.1 in omega arith))
@@ -218,7 +220,7 @@ spaced program seed size (suc i) some queries big within =
 
 -- what is told of n rounds, with at most n adds and revokes and s seals
 record IsDrawn (program : Program) (n s : ℕ) (commands : List Command) : Type 0 where
-  told : AreTold program commands
+  told : AreMade program commands
   feeds : feed_count commands ≤ n
   seals : seal_count commands ≤ s
 
@@ -243,7 +245,7 @@ drawn_fed : (program : Program) (n s : ℕ) (before after : List Command)
 drawn_fed program n s before after drawn adds =
     subst (λ (l : List Command). IsDrawn program (n + 1) s l) (sym adds.list)
     (record {
-      told = told_push program before adds.feed drawn.told (adds.told drawn.told);
+      told = made_push program before adds.feed drawn.told (adds.told drawn.told);
       feeds = omega (
         arith,
         feeds_more before adds.feed ∙ ap (λ (b : Bool). feed_count before
@@ -269,7 +271,7 @@ drawn_more program n s n' s' l drawn feeds seals = record {
 drawn_sealed : (program : Program) (n s : ℕ) (l : List Command) → IsDrawn program n s l
     → IsDrawn program n (s + 1) (l ++ Seal ∷ [])
 drawn_sealed program n s l drawn = record {
-  told = told_push program l Seal drawn.told tt;
+  told = made_push program l Seal drawn.told tt;
   feeds = omega (arith, feeds_more l Seal, drawn.feeds);
   seals = omega (arith, seals_more l Seal, drawn.seals);
 }
@@ -324,9 +326,9 @@ drawn_all program seed (suc p) queries big =
     (drawn_more program (p + 1) (p / m + 1) size program.plan.queries (mid.commands ++ Seal ∷ [])
     (drawn_sealed program (p + 1) (p / m) mid.commands here) (omega arith) (omega arith))
 
-pub told_all : (program : Program) (seed size : ℕ) → 1 ≤ program.plan.queries → 1 ≤ size
-    → AreTold program (workload_of program seed size)
-told_all program seed size queries big = (drawn_all program seed size queries big).told
+pub made_all : (program : Program) (seed size : ℕ) → 1 ≤ program.plan.queries → 1 ≤ size
+    → AreMade program (workload_of program seed size)
+made_all program seed size queries big = (drawn_all program seed size queries big).told
 
 pub feeds_few : (program : Program) (seed size : ℕ) → 1 ≤ program.plan.queries → 1 ≤ size
     → feed_count (workload_of program seed size) ≤ size

@@ -89,7 +89,8 @@ spaced_none m = record {
 pub spaced_feed : (m n : ℕ) (before : List Command) (c : Command) → 0 < m → is_feed c ≡ true
     → AreSpaced m n (n / m) before → AreSpaced m (n + 1) (n / m) (before ++ c ∷ [])
 spaced_feed m n before c some is spaced =
-    let more : filter is_feed (before ++ c ∷ []) ≡ filter is_feed before ++ c ∷ [] = feeds_fed before c is in
+    let more : filter is_feed (before ++ c ∷ []) ≡ filter is_feed before ++ c ∷ [] =
+    feeds_fed before c is in
     let long : length (before ++ c ∷ []) ≡ length before + 1 = length-append before (c ∷ []) in
     let long' : length (filter is_feed before ++ c ∷ []) ≡ length (filter is_feed before) + 1 =
     length-append (filter is_feed before) (c ∷ []) in
@@ -97,7 +98,8 @@ spaced_feed m n before c some is spaced =
       feeds = omega (arith, ap length more, long', spaced.feeds);
       all = omega (arith, long, spaced.all);
       placed =
-          below_more (λ j. slice_get (before ++ c ∷ []) (j + j / m) ≡ feed_at (before ++ c ∷ []) j) n
+          below_more
+          (λ j. slice_get (before ++ c ∷ []) (j + j / m) ≡ feed_at (before ++ c ∷ []) j) n
           (λ j h.
           let low : j / m ≤ n / m = quotients_rise j n m some (omega (arith, h)) in
           get_front before (c ∷ []) (j + j / m) (omega (arith, h, low, spaced.all))
@@ -113,7 +115,8 @@ pub spaced_seal : (m n s : ℕ) (before : List Command) → 0 < m → n / m ≤ 
     → AreSpaced m (n + 1) s before → AreSpaced m (n + 1) (s + 1) (before ++ Seal ∷ [])
 spaced_seal m n s before some low spaced =
     let same : filter is_feed (before ++ Seal ∷ []) ≡ filter is_feed before = feeds_sealed before in
-    let long : length (before ++ Seal ∷ []) ≡ length before + 1 = length-append before (Seal ∷ []) in
+    let long : length (before ++ Seal ∷ []) ≡ length before + 1 =
+    length-append before (Seal ∷ []) in
     record {
       feeds = ap length same ∙ spaced.feeds;
       all = omega (arith, long, spaced.all);

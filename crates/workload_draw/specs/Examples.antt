@@ -1,7 +1,7 @@
--- Public contracts speak by this: a sample program; and evidence that the definitions say what is
--- meant: small workloads, against the values of a program of their own. Each equation holds by
--- computation alone.
-use Rattle.std.specs.Prelude.{◌≡◌, ℕ, ◌+◌, List, [], ◌∷◌, codes, refl}
+-- For private functions alone: a sample program; and evidence that the definitions say what is
+-- meant: small workloads, beside those of another program. Each equation holds by computation
+-- alone.
+use Rattle.std.specs.Prelude.{◌≡◌, ℕ, ◌+◌, List, [], ◌∷◌, drop, codes, refl}
 use Rattle.ground_types.specs.Examples.{lamp}
 use Rattle.ground_types.specs.declared.entries.Act.TheVariants.{Add, Revoke}
 use Rattle.ground_types.specs.declared.entries.Command.TheVariants.{Feed, Seal}
@@ -47,10 +47,30 @@ of_two_queries : workload_of (two_inputs (ten_by_five_of 2)) 11 5 ≡ Feed 8 Add
     ∷ Feed 6 Revoke 0 0 ∷ Seal ∷ Feed 6 Revoke 0 8 ∷ Feed 6 Add 0 5 ∷ Seal ∷ []
 of_two_queries = refl
 
--- what a revoke names is revoked again
-of_one_query : workload_of (two_inputs (ten_by_five_of 1)) 113 4 ≡ Feed 5 Add 0 0 ∷ Feed 6 Revoke 0 0
-    ∷ Feed 5 Add 1 0 ∷ Feed 6 Revoke 0 0 ∷ Seal ∷ []
+-- what two revokes name is the same, whichever is drawn
+of_one_query : workload_of (two_inputs (ten_by_five_of 1)) 113 4 ≡ Feed 5 Add 0 0
+    ∷ Feed 6 Revoke 0 0 ∷ Feed 5 Add 1 0 ∷ Feed 6 Revoke 0 0 ∷ Seal ∷ []
 of_one_query = refl
+
+-- the first command is an add, whatever is drawn, and a revoke may be of what a revoke names
+of_a_revoke : workload_of (two_inputs (ten_by_five_of 1)) 104 4
+    ≡ Feed 6 Add 0 5 ∷ Feed 3 Revoke 0 5 ∷ Feed 8 Revoke 0 5 ∷ Feed 8 Add 1 1 ∷ Seal ∷ []
+of_a_revoke = refl
+
+-- a revoke reaches back by 64 commands at most
+of_many_commands : drop 69 (workload_of (two_inputs (ten_by_five_of 1)) 12 70)
+    ≡ Feed 2 Revoke 0 4 ∷ Seal ∷ []
+of_many_commands = refl
+
+-- borders, windows and steps of other lengths
+of_other_windows : workload_of (two_inputs (record {
+  window = 7;
+  step = 3;
+  from = 100;
+  queries = 2;
+})) 4 4 ≡ Feed 8 Add 0 102 ∷ Feed 7 Add 0 99 ∷ Seal ∷ Feed 4 Add 0 102 ∷ Feed 5 Add 0 109 ∷ Seal
+    ∷ []
+of_other_windows = refl
 
 -- the greatest seed
 of_the_greatest_seed : workload_of (two_inputs (ten_by_five_of 2)) 18446744073709551615 3

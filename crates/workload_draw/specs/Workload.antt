@@ -1,7 +1,7 @@
 -- Public contracts speak by this: made workloads, which a seed, a size and a program determine.
 use Rattle.std.specs.Prelude.{◌<◌, ◌≤◌, ℕ, zero, suc, ◌+◌, ◌-◌, ◌*◌, ◌/◌, ◌%◌, ◌^◌, min, ◌==◌}
-use Rattle.std.specs.Prelude.{not, ◌&&◌, ◌||◌, if◌then◌else◌, List, [], ◌∷◌, ◌++◌, filter, slice_get}
-use Rattle.std.specs.Prelude.{Option, Some}
+use Rattle.std.specs.Prelude.{not, ◌&&◌, ◌||◌, if◌then◌else◌, List, [], ◌∷◌, ◌++◌, filter}
+use Rattle.std.specs.Prelude.{slice_get, Option, Some}
 use Rattle.std.specs.Int.{div_ceil}
 use Rattle.ground_types.specs.declared.entries.Act.TheVariants.{Add, Revoke}
 use Rattle.ground_types.specs.declared.entries.Command.{Command}
@@ -19,16 +19,18 @@ next_state x = (x * 6364136223846793005 + 1442695040888963407) % 2 ^ 64
 abbrev pub drawn : ℕ → ℕ → ℕ
 drawn n x = next_state x / 2048 % n
 
--- M, how many adds and revokes a seal follows: size / queries, rounded up
+-- M, how many adds and revokes a seal follows (the last seal fewer, perhaps): size / queries,
+-- rounded up
 abbrev pub per_seal : Plan → ℕ → ℕ
 per_seal plan size = div_ceil size plan.queries
 
--- The point of an add into window k, drawn in state x: one of the points after w_k - step and up to
--- w_k + window. A difference of natural numbers is 0 where it would be below 0.
+-- The point of an add that is drawn for query k, in state x: one of the points after w_k - step and
+-- up to w_k + window, so some lie at or before the left border. A difference of natural numbers is
+-- 0 where it would be below 0.
 abbrev pub point_drawn : Plan → ℕ → ℕ → ℕ
 point_drawn plan k x = left plan k + 1 + drawn (plan.window + plan.step) x - plan.step
 
--- an add into window k by a feeder: the event is drawn in state x, and then the point
+-- an add by a feeder, drawn for query k: the event is drawn in state x, and then the point
 abbrev pub added : Program → ℕ → ℕ → ℕ → Command
 added program feeder k x =
     Feed feeder Add (drawn program.events x) (point_drawn program.plan k (next_state x))
@@ -43,8 +45,8 @@ abbrev pub revoked : ℕ → Option Command → Command
 revoked feeder (Some (Feed other act event at)) = Feed feeder Revoke event at
 revoked feeder other = Feed feeder Revoke 0 0
 
--- the revoke of what one of the commands before command i names: it is drawn in state x from the 64
--- nearest, or from all where they are fewer
+-- the revoke of what one of the adds and revokes before command i names: it is drawn in state x
+-- from the 64 nearest, or from all where they are fewer
 abbrev pub revoked_before : ℕ → ℕ → List Command → ℕ → Command
 revoked_before feeder i before x = revoked feeder (feed_at before (i - 1 - drawn (min i 64) x))
 
@@ -54,7 +56,7 @@ pub record Drawing : Type 0 where
   pub commands : List Command
 
 -- With command i, of a feeder of 1 to 8: one time in ten a revoke, if it is not the first command,
--- else an add into window i / M.
+-- else an add for query i / M.
 abbrev pub with_feed : Program → ℕ → ℕ → Drawing → Drawing
 with_feed program m i before =
     let feeder = 1 + drawn 8 before.state in
@@ -93,12 +95,12 @@ abbrev pub workload_of : Program → ℕ → ℕ → List Command
 workload_of program seed size = (drawing program seed size size).commands
 
 -- an add or a revoke of a feeder of 1 to 8 and an event of the program, or a seal
-abbrev pub IsTold : Program → Command → Type 0
-IsTold program (Feed feeder act event at) = (1 ≤ feeder) × (feeder ≤ 8) × (event < program.events)
-IsTold program Seal = Unit {0}
-IsTold program command = ⊥
+abbrev pub IsMade : Program → Command → Type 0
+IsMade program (Feed feeder act event at) = (1 ≤ feeder) × (feeder ≤ 8) × (event < program.events)
+IsMade program Seal = Unit {0}
+IsMade program command = ⊥
 
 -- so is each command of a list
-abbrev pub AreTold : Program → List Command → Type 0
-AreTold program [] = Unit {0}
-AreTold program (command ∷ rest) = IsTold program command × AreTold program rest
+abbrev pub AreMade : Program → List Command → Type 0
+AreMade program [] = Unit {0}
+AreMade program (command ∷ rest) = IsMade program command × AreMade program rest

@@ -8,7 +8,7 @@ ghost use Rattle.workload_draw.specs.Workload.{with_feed};
 use crate::draws::Draws;
 use ground_types::{Act, Command, Plan, Point, Program};
 
-// A point of an add into window k.
+// A point of an add for query k.
 fn point(plan: &Plan, k: u32, draws: &mut Draws) -> Point
     requires sound { IsSoundPlan plan.now }
     requires within { k ≤ plan.now.queries }
@@ -19,7 +19,7 @@ fn point(plan: &Plan, k: u32, draws: &mut Draws) -> Point
     above.saturating_sub(plan.step)
 }
 
-// An add into window k by a feeder.
+// An add by a feeder, for query k.
 fn add(program: &Program, feeder: u8, k: u32, draws: &mut Draws) -> Command
     requires sound { IsSoundPlan program.now.plan }
     requires within { k ≤ program.now.plan.queries }

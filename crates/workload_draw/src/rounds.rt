@@ -5,7 +5,7 @@ ghost use Rattle.ground_types.specs.Windows.{IsSoundPlan};
 ghost use Rattle.workload_draw.specs.Counts.{feed_count, seal_count};
 ghost use Rattle.workload_draw.specs.Spaced.{AreSpaced};
 ghost use Rattle.workload_draw.specs.Workload.{per_seal, with_feed, with_seal, with_round};
-ghost use Rattle.workload_draw.specs.Workload.{workload_of, AreTold};
+ghost use Rattle.workload_draw.specs.Workload.{workload_of, AreMade};
 
 use crate::draws::Draws;
 use crate::feeds::feed;
@@ -77,9 +77,9 @@ impl Made {
 }
 
 /// The workload of a seed and a size: adds, revokes and seals, by which people try a description at
-/// size. There are `size` adds and revokes, or none where the program has no input events, of
-/// feeders from 1 to 8 and events of the program; and at most as many seals as queries. It takes
-/// the memory of its commands alone. The one error is want of memory. The format is our own.
+/// scale. It has at most `size` adds and revokes (none where the program has no input events), of
+/// feeders from 1 to 8 and events of the program, and at most as many seals as queries. The one
+/// error is want of memory. The scheme is our own, over the generator of Knuth's MMIX.
 pub fn workload(
     alloc: Global,
     program: &Program,
@@ -90,7 +90,7 @@ pub fn workload(
     requires some { 1 ≤ size }
     requires queries { 1 ≤ program.now.plan.queries }
     ensures is { IfOk result (λ commands. commands.items ≡ workload_of program.now seed size) }
-    ensures told { IfOk result (λ commands. AreTold program.now commands.items) }
+    ensures made { IfOk result (λ commands. AreMade program.now commands.items) }
     ensures feeds { IfOk result (λ commands. feed_count commands.items ≤ size) }
     ensures seals { IfOk result (λ commands. seal_count commands.items
         ≤ program.now.plan.queries) }

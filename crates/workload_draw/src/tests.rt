@@ -104,6 +104,14 @@ fn workloads_are_those_of_another_program(rt: HostRuntime) -> Result<(), Fail> {
         ),
         (1024, 2, 1, 0, "2: Add 8 0 4, Seal, "),
         (
+            1,
+            104,
+            4,
+            0,
+            "5: Add 6 0 5, Revoke 3 0 5, Revoke 8 0 5, Add 8 1 1, Seal, ",
+        ),
+        (1, 12, 70, 69, "71: Revoke 2 0 4, Seal, "),
+        (
             3,
             1,
             300,

@@ -2,8 +2,8 @@ use Rattle.std.proofs.Common.{List, ◌/◌, ◌≡◌, ◌≤◌, ap, sym, subs
 use Rattle.ground_types.specs.declared.entries.Command.{Command}
 use Rattle.workload_draw.specs.Counts.{feed_count, seal_count}
 use Rattle.workload_draw.specs.Spaced.{AreSpaced}
-use Rattle.workload_draw.specs.Workload.{Drawing, per_seal, drawing, AreTold}
-use Rattle.workload_draw.proofs.Drawings.{per_seal_some, spaced, next_fed, next_bare, told_all}
+use Rattle.workload_draw.specs.Workload.{Drawing, per_seal, drawing, AreMade}
+use Rattle.workload_draw.proofs.Drawings.{per_seal_some, spaced, next_fed, next_bare, made_all}
 use Rattle.workload_draw.proofs.Drawings.{feeds_few, seals_few}
 use Rattle.workload_draw.proofs.rounds.workload.Goals as goal
 use Rattle.workload_draw.proofs.rounds.workload.Goals.{then-program-gt0+in_ok-add_feed}
@@ -50,10 +50,10 @@ returns-clause-is c =
     c.into_commands.ensures ∙ all
     ∙ ap (λ n. (drawing c.args.program.now c.args.seed c.args.size n).commands) end
 
-pub returns-clause-told : goal.returns-clause-told
-returns-clause-told c =
-    subst (λ (l : List Command). AreTold c.args.program.now l) (sym (returns-clause-is c))
-    (told_all c.args.program.now c.args.seed c.args.size c.requires.queries c.requires.some)
+pub returns-clause-made : goal.returns-clause-made
+returns-clause-made c =
+    subst (λ (l : List Command). AreMade c.args.program.now l) (sym (returns-clause-is c))
+    (made_all c.args.program.now c.args.seed c.args.size c.requires.queries c.requires.some)
 
 pub returns-clause-feeds : goal.returns-clause-feeds
 returns-clause-feeds c =
