@@ -8,7 +8,7 @@ use Rattle.std.proofs.lemmas.Bool.Decides.{nat_tests}
 use Rattle.command_words.specs.Words.{Text, Given, Task, Recognise, Ground, Simulate, Live}
 use Rattle.command_words.specs.Words.{is_file, are_digits, seed_of, size_of, workers_of}
 use Rattle.command_words.specs.Words.{feeders_of, recognise_files, ground_files, simulate_places}
-use Rattle.command_words.specs.Words.{are_live, live_files, recognise, ground_text, simulate, live}
+use Rattle.command_words.specs.Words.{are_live, live_files, recognise, grounding, simulate, live}
 use Rattle.command_words.specs.Words.{asked, given_by, task_of}
 use Rattle.rtec_main.specs.Tasks.{IsSized}
 
@@ -82,7 +82,7 @@ recognise_given given =
     (for_each (recognise_files given.places) (workers_of given.workers)
     (recognise_so given.places))
 
-ground_given : (given : Given) → IsSized (ground_text given)
+ground_given : (given : Given) → IsSized (grounding given)
 ground_given given =
     by_test (is_some given.workers || is_some given.feeders || given.is_full) None
     (ground_files given.places) tt (ground_so given.places)
@@ -108,11 +108,11 @@ live_given given =
 command_given : (command : Text) (given : Given) → IsSized (asked command given)
 command_given command given =
     by_test (bytes_eq command (codes "recognise")) (recognise given)
-    (if bytes_eq command (codes "ground") then ground_text given
+    (if bytes_eq command (codes "ground") then grounding given
     else if bytes_eq command (codes "simulate") then simulate given
     else if bytes_eq command (codes "live") then live given else None)
     (recognise_given given)
-    (by_test (bytes_eq command (codes "ground")) (ground_text given)
+    (by_test (bytes_eq command (codes "ground")) (grounding given)
     (if bytes_eq command (codes "simulate") then simulate given
     else if bytes_eq command (codes "live") then live given else None)
     (ground_given given)

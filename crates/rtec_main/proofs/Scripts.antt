@@ -13,7 +13,7 @@ use Rattle.ground_types.specs.declared.program.Program.{Program}
 use Rattle.stream_read.specs.Scripts.{AreOfProgram}
 use Rattle.stream_read.specs.declared.script.Placed.{Placed}
 use Rattle.workload_draw.specs.Counts.{seal_count, feed_count}
-use Rattle.workload_draw.specs.Workload.{AreTold}
+use Rattle.workload_draw.specs.Workload.{AreMade}
 use Rattle.rtec_main.specs.Coursing.{AreCommandsOf}
 use Rattle.rtec_main.specs.Reads.{DoNotRun, script_status}
 use Rattle.rtec_main.specs.Run.{commands_outcome}
@@ -83,7 +83,7 @@ commands_are program [] are = tt
 commands_are program (first ∷ rest) are = (are.0, commands_are program rest are.1)
 
 -- so are those of a workload
-pub told_are : (program : Program) (commands : List Command) → AreTold program commands
+pub told_are : (program : Program) (commands : List Command) → AreMade program commands
     → AreCommandsOf program commands
 told_are program [] are = tt
 told_are program (command.Feed feeder act event at ∷ rest) are =

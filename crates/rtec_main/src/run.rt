@@ -112,45 +112,47 @@ fn ground<I: Inputs, K: Sink>(
 fn perform<R: Threads + Sync, I: Inputs, K: Sink>(
     rt: &R,
     alloc: Global,
-    asked: Option<Task>,
+    asked: &Option<Task>,
     inputs: &mut I,
     out: &mut K,
 ) -> Status
-    requires sized { IsSized (option_map plain_task asked) }
+    requires sized { IsSized (option_map plain_task asked.now) }
     ensures status { MeansOfWords
         (world_of (I.bytes inputs.old) (I.faults inputs.old) (K.taken out.old)
         (K.faults out.old))
         (world_of (I.bytes inputs.new) (I.faults inputs.new) (K.taken out.new)
         (K.faults out.new))
-        (option_map plain_task asked.entry) result }
+        (option_map plain_task asked.now) result }
     ensures complete { Completes
         (world_of (I.bytes inputs.old) (I.faults inputs.old) (K.taken out.old)
         (K.faults out.old))
         (world_of (I.bytes inputs.new) (I.faults inputs.new) (K.taken out.new)
         (K.faults out.new))
-        (option_map plain_task asked.entry) result }
+        (option_map plain_task asked.now) result }
     ensures same { (name : List ℕ) → I.bytes inputs.new name ≡ I.bytes inputs.old name }
     ensures later { (name : List ℕ) → I.faults inputs.old name ≤ I.faults inputs.new name }
     ensures later_writes { K.faults out.old ≤ K.faults out.new }
 {
-    let Some(task) = asked else {
-        return Status::BadWords;
-    };
-    match task {
-        Task::Recognise {
-            description,
-            script,
-            workers: _,
-        } => recognise(rt, alloc, description, script, inputs, out),
-        Task::Ground { description } => ground(alloc, description, inputs, out),
-        Task::Simulate {
-            description,
-            seed,
-            size,
-            workers: _,
-            is_full,
-        } => simulate(rt, alloc, description, seed, size, is_full, inputs, out),
-        Task::Live { .. } => Status::BadWords,
+    match asked {
+        Some(
+            Task::Recognise {
+                description,
+                script,
+                ..
+            },
+        ) => recognise(rt, alloc, description, script, inputs, out),
+        Some(Task::Ground { description }) => ground(alloc, description, inputs, out),
+        Some(
+            Task::Simulate {
+                description,
+                seed,
+                size,
+                is_full,
+                ..
+            },
+        ) => simulate(rt, alloc, description, *seed, *size, *is_full, inputs, out),
+        Some(Task::Live { .. }) => Status::BadWords,
+        None => Status::BadWords,
     }
 }
 
@@ -216,7 +218,7 @@ pub fn run<R: Threads + Sync, I: Inputs, K: Sink, G: Gate>(
         Err(OutOfMemory) => return Status::OutOfMemory,
     };
     match task_of(alloc, words.as_slice()) {
-        Ok(asked) => perform(rt, alloc, asked, inputs, out),
+        Ok(asked) => perform(rt, alloc, &asked, inputs, out),
         Err(OutOfMemory) => Status::OutOfMemory,
     }
 }

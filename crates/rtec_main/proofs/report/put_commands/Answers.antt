@@ -60,20 +60,18 @@ loop-item-preserved g c =
       history = ap (λ (l : Log). l.history) made.log
           ∙ history_next g.T.Commanded.command_of c.loop-item.course.names c.args.course.now.names
           c.loop-item.course.log.history c.args.commands.now c.loop-item.item-index
-    c.item-item.result c.command-command.result
-    (c.command-command.ensures ∙ ap g.T.Commanded.command_of c.item-item.is)
-
-    inv.names inv.history (omega arith);
+          c.item-item.result c.command-command.result
+          (c.command-command.ensures ∙ ap g.T.Commanded.command_of c.item-item.is)
+          inv.names inv.history (omega arith);
       way = way_next (g.K.Sink.taken c.args.out.now) (g.K.Sink.taken c.loop-item.out)
           (g.K.Sink.taken c.hand_on.new.out) c.loop-item.text.items _
           c.put_command.new.text.items c.hand_on.new.text.items _ _ inv.way made.text
           c.in_ok-hand_on.ensures.ok
           (text_next g.T.Commanded.command_of c.loop-item.course.names c.args.course.now.names
           c.loop-item.course.log.history c.args.commands.now c.loop-item.item-index
-    c.item-item.result c.command-command.result
-    (c.command-command.ensures ∙ ap g.T.Commanded.command_of c.item-item.is)
-
-    inv.names inv.history (omega arith));
+          c.item-item.result c.command-command.result
+          (c.command-command.ensures ∙ ap g.T.Commanded.command_of c.item-item.is)
+          inv.names inv.history (omega arith));
       none = c.in_ok-hand_on.ensures.blame ∙ inv.none;
       parts = c.put_command.ensures.parts ∙ inv.parts;
     }

@@ -36,8 +36,8 @@ loop-item-preserved g c =
           ∙ history_next g.T.Commanded.command_of c.loop-item.course.names
           c.args.course.now.names c.loop-item.course.log.history c.args.commands.now
           c.loop-item.item-index
-    c.item-item.result c.command.result
-    (c.command.ensures ∙ ap g.T.Commanded.command_of c.item-item.is)
-    inv.names inv.history (omega arith);
+          c.item-item.result c.command.result
+          (c.command.ensures ∙ ap g.T.Commanded.command_of c.item-item.is)
+          inv.names inv.history (omega arith);
       parts = c.take_command.ensures.parts ∙ inv.parts;
     }

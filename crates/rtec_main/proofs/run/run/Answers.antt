@@ -33,3 +33,9 @@ pub perform-requires-clause-sized : goal.perform-requires-clause-sized
 perform-requires-clause-sized g c κs within =
     subst IsSized (sym (asked_by g (goal.at.perform-requires-clause-sized g c).In-Ok-task_of))
     (words_sized c.args.words.now)
+
+pub returns-clause-complete : goal.returns-clause-complete
+returns-clause-complete g c =
+    no_memory_completes (world_of (g.I.Inputs.bytes c.args.inputs.now)
+    (g.I.Inputs.faults c.args.inputs.now) (g.K.Sink.taken c.args.out.now)
+    (g.K.Sink.faults c.args.out.now)) (task_of c.args.words.now)

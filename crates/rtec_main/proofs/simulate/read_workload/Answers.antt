@@ -59,6 +59,11 @@ queries_some found program sound same =
     ∙ ap (λ (p : PlainProgram). p.plan) sound.is_program))
     sound.checked.query_some
 
+pub workload-requires-clause-sound : goal.workload-requires-clause-sound
+workload-requires-clause-sound g c =
+    subst IsSound (sym c.into_program-program.ensures)
+    c.in_ok-described.ensures.sound.program
+
 pub workload-requires-clause-queries : goal.workload-requires-clause-queries
 workload-requires-clause-queries g c =
     queries_some c.in_ok-described.described c.into_program-program.result
@@ -80,7 +85,7 @@ returns-clause-counted g c =
 pub returns-clause-of_program : goal.returns-clause-of_program
 returns-clause-of_program g c =
     told_are c.into_program-program.result c.in_ok-commands.commands.items
-    c.in_ok-commands.ensures.told
+    c.in_ok-commands.ensures.made
 
 -- and it runs
 runs : (g : Over) (c : In_ok-commands g)

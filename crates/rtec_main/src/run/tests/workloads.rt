@@ -86,13 +86,30 @@ fn workloads_are_those_of_their_seeds(rt: HostRuntime) -> Result<(), Fail> {
 fn sizes_are_bounded(rt: HostRuntime) -> Result<(), Fail> {
     let plan = "window(1024).\nstep(1).";
     let lamp = changed(rt.alloc(), LAMP, "window(10).\nstep(5).", plan)?;
-    let still = changed(rt.alloc(), STILL, "window(10).\nstep(5).\nqueries(3).", plan)?;
+    let still = changed(
+        rt.alloc(),
+        STILL,
+        "window(10).\nstep(5).\nqueries(3).",
+        plan,
+    )?;
     let rows = [
         (lamp.as_str(), "simulate|desc|1|5", "0 "),
-        (lamp.as_str(), "simulate|desc|1|16385", "5 too large: occurrences"),
+        (
+            lamp.as_str(),
+            "simulate|desc|1|16385",
+            "5 too large: occurrences",
+        ),
         // The size counts too where there are no events.
-        (still.as_str(), "simulate|desc|1|16385", "5 too large: occurrences"),
-        ("window(10).\n", "simulate|desc|1|5", "3 description: bad plan"),
+        (
+            still.as_str(),
+            "simulate|desc|1|16385",
+            "5 too large: occurrences",
+        ),
+        (
+            "window(10).\n",
+            "simulate|desc|1|5",
+            "3 description: bad plan",
+        ),
         (LAMP, "simulate|other|1|5", "6 input 0 could not be read"),
     ];
     for (description, words, wanted) in rows {
