@@ -28,7 +28,8 @@ pub returns-in_err-put_command-clause-err : goal.returns-in_err-put_command-clau
 returns-in_err-put_command-clause-err g c =
     on_err c.from_residual.result _
     (cut_so_far g.T.Commanded.command_of (g.K.Sink.taken c.args.out.now)
-    (g.K.Sink.taken c.loop-item.out) c.loop-item.text.items c.args.course.now.names c.args.commands.now
+    (g.K.Sink.taken c.loop-item.out) c.loop-item.text.items c.args.course.now.names
+    c.args.commands.now
     c.loop-item.item-index c.loop-item.invariant.way)
 
 pub returns-in_err-hand_on-clause-err : goal.returns-in_err-hand_on-clause-err

@@ -36,7 +36,8 @@ returns-then-are_too_many-clause-answer g c =
     c.args.description.now c.args.seed c.args.size workers is_full c.in_ok-described.described
     c.in_ok-described.ensures.sound c.in_ok-described.ensures.ok
     (subst (λ (p : Program). are_too_many p.plan c.args.size ≡ true)
-    c.into_program-program.ensures (ap (are_too_many c.into_program-program.result.plan) (sym c.from.ensures)
+    c.into_program-program.ensures
+    (ap (are_too_many c.into_program-program.result.plan) (sym c.from.ensures)
     ∙ sym c.are_too_many.ensures ∙ c.if-are_too_many.true)) _ refl
 
 pub returns-then-are_too_many-clause-complete : goal.returns-then-are_too_many-clause-complete
@@ -46,7 +47,8 @@ returns-then-are_too_many-clause-complete g c =
     c.args.description.now c.args.seed c.args.size workers is_full c.in_ok-described.described
     c.in_ok-described.ensures.sound c.in_ok-described.ensures.ok
     (subst (λ (p : Program). are_too_many p.plan c.args.size ≡ true)
-    c.into_program-program.ensures (ap (are_too_many c.into_program-program.result.plan) (sym c.from.ensures)
+    c.into_program-program.ensures
+    (ap (are_too_many c.into_program-program.result.plan) (sym c.from.ensures)
     ∙ sym c.are_too_many.ensures ∙ c.if-are_too_many.true))
     (Err (status.TooLarge limit.Occurrences)) refl
 
@@ -117,7 +119,8 @@ returns-clause-answer g c =
     c.args.description.now c.args.seed c.args.size is_full c.in_ok-described.described
     c.in_ok-described.ensures.sound c.in_ok-described.ensures.ok
     (subst (λ (p : Program). are_too_many p.plan c.args.size ≡ false)
-    c.into_program-program.ensures (ap (are_too_many c.into_program-program.result.plan) (sym c.from.ensures)
+    c.into_program-program.ensures
+    (ap (are_too_many c.into_program-program.result.plan) (sym c.from.ensures)
     ∙ sym c.are_too_many.ensures ∙ c.if-are_too_many.false))
     c.into_program-program.result c.in_ok-commands.commands.items
     c.into_program-program.ensures c.in_ok-commands.ensures.is
@@ -130,5 +133,6 @@ returns-clause-complete g c =
     c.args.description.now c.args.seed c.args.size workers is_full c.in_ok-described.described
     c.in_ok-described.ensures.sound c.in_ok-described.ensures.ok
     (subst (λ (p : Program). are_too_many p.plan c.args.size ≡ false)
-    c.into_program-program.ensures (ap (are_too_many c.into_program-program.result.plan) (sym c.from.ensures)
+    c.into_program-program.ensures
+    (ap (are_too_many c.into_program-program.result.plan) (sym c.from.ensures)
     ∙ sym c.are_too_many.ensures ∙ c.if-are_too_many.false)) c.in_ok-commands.commands
